@@ -76,3 +76,9 @@ pub number-zeros : (k at n : ℕ) → number (replicate k 0) at n ≡ 0
 unfolding number
 number-zeros k at zero = refl
 number-zeros k at (suc n) = rw (number-zeros k at n, getD-zeros k (at + n)) (omega arith)
+
+-- ---- of one byte
+
+pub number-one : (s : List ℕ) (at : ℕ) → number s at 1 ≡ getD s at 0
+unfolding number
+number-one s at = rw add-zero (omega arith)

@@ -1,0 +1,6 @@
+pub mod Quotient
+pub mod Numerals
+pub mod Writing
+pub mod Remaining
+pub mod Phrases
+mod Examples

@@ -1,5 +1,6 @@
 pub mod Quotient
 pub mod Numerals
+pub mod Unique
 pub mod Writing
 pub mod Remaining
 pub mod Phrases

@@ -34,7 +34,7 @@ decimal-twenty n h = decimal-fits 19 n (omega arith)
 
 -- ---- it is a numeral
 
-readOn-last : (before : ℕ) (xs : List ℕ) (d : ℕ) → readOn before (xs ++ (d ∷ [])) ≡ readOn before xs * 10 + (d - 48)
+pub readOn-last : (before : ℕ) (xs : List ℕ) (d : ℕ) → readOn before (xs ++ (d ∷ [])) ≡ readOn before xs * 10 + (d - 48)
 readOn-last before [] d = refl
 readOn-last before (x ∷ xs) d = readOn-last (before * 10 + (x - 48)) xs d
 

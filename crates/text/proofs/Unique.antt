@@ -1,11 +1,11 @@
 -- A number has one numeral.
 use Prim.Native.Nat.{ℕ, _+_, _-_, _*_, _/_, _%_, _≤_, _<_}
-use mathlib.Core.Path.{_≡_, refl}
+use mathlib.Core.Path.{_≡_}
 use mathlib.Core.Logic.{by-cases}
 use mathlib.Core.List.{List, [], _∷_, _++_}
 use native.Mathlib.Decide.{decLt}
 use native.Mathlib.Omega.{arith}
-use lib.ListN.{length, getD, length-append}
+use lib.ListN.{length-append}
 use Rattle.text.specs.Decimal.{decimal, readOn, readBack, Digits, Numeral}
 use Rattle.text.proofs.Quotient.{decimal-small, decimal-more, by-quotient}
 use Rattle.text.proofs.Numerals.{readOn-last}

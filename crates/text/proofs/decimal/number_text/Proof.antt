@@ -8,7 +8,8 @@ put-number-requires : tie.Need-put-number-requires
 put-number-requires c κs = omega (arith, decimal-twenty (c .before .args .n) (omega arith))
 
 returns : tie.Need-returns
-returns c = let n = c .before .before .args .n in
+returns c =
+    let n = c .before .before .args .n in
     let front = put-front (c .put-number .ensures) (omega (arith, decimal-twenty n (omega arith))) in
     (front, rw (front .first) (decimal-numeral n))
 

@@ -10,7 +10,7 @@ pub record Put (l : List ℕ) (at : ℕ) (text m : List ℕ) (next : ℕ) : Type
   pub bytes : m ≡ sets l at text
   pub place : next ≡ at + length text
 
--- The first r bytes of m are text, and behind them m is as l. The first two facts follow from the others; they are what lending `&m[..r]` asks for.
+-- The first r bytes of m are text, and behind them m is as l. `counted` follows from `within`; lending `&m[..r]` asks for both.
 pub record Front (l text m : List ℕ) (r : ℕ) : Type 0 where
   pub within : r ≤ length m
   pub counted : r ≡ length (take r m)

@@ -11,7 +11,7 @@ use Rattle.word.specs.Number.{number, put}
 use Rattle.word.specs.Fields.{Field, putAll, clearOf}
 use Rattle.word.proofs.Writing.{Apart, read-beside, round-trip, length-put}
 
-both : (a b : Bool) → T (a && b) → T a × T b
+pub both : (a b : Bool) → T (a && b) → T a × T b
 both true b h = (tt, h)
 both false b h = absurd h
 

@@ -1,0 +1,13 @@
+// The sums done by hand in document 01, lines 1 to 12, worked on real rings: what is found is printed, a line each.
+mod lives;
+mod print;
+mod refusals;
+
+fn main() {
+    lives::one_ring();
+    lives::larger_first();
+    lives::nothing_fits();
+    lives::two_capacities();
+    refusals::counter_at_its_end();
+    refusals::lengths();
+}

@@ -1,2 +1,4 @@
 pub mod Encoding
 pub mod Stored
+pub mod Consumer
+pub mod Holds

@@ -4,13 +4,13 @@ use native.Mathlib.Omega.{arith}
 use mathlib.Core.Path.{_≡_, refl, sym, ap, ap₂, _∙_, subst}
 use mathlib.Core.List.{List, [], _∷_, _++_, map}
 use lib.ListN.{length, take, drop, length-map}
-use lib.Seq.{take-append-seam, drop-append-seam}
+use lib.Seq.{take-append-seam, drop-at}
 use Rattle.event.specs.Event.{eventBytes, Fit, sequence}
 use Rattle.event.specs.Run.{joined, Each, Rising, Whole, lastOf}
 use Rattle.event.specs.Walk.{walkFrom, overflow}
 use Rattle.event.specs.declared.Walk.the-variants.{Room}
 use Rattle.event.proofs.Made.{made-length, made-says}
-use Rattle.event.proofs.Front.{made-one, length-joined}
+use Rattle.event.proofs.Front.{made-one, length-joined, joined-append, joined-more}
 use Rattle.event.proofs.Overflow.{overflow-none, overflow-more, walk-whole}
 use Rattle.inspect.specs.Inspect.{firstOf}
 use Rattle.history.specs.Runs.{total, latest, older}
@@ -37,6 +37,10 @@ module _ (cpu : ℕ) where
   unfolding joined
   joined-length [] = refl
   joined-length (x ∷ xs) = omega (arith, length-joined (encode cpu x) (map (encode cpu) xs), encode-length x, joined-length xs)
+
+  -- one event more
+  pub joined-one : (xs : List (Numbered Event)) (x : Numbered Event) → joined (map (encode cpu) (xs ++ (x ∷ []))) ≡ joined (map (encode cpu) xs) ++ encode cpu x
+  joined-one xs x = ap joined (map-append (encode cpu) xs (x ∷ [])) ∙ joined-more (map (encode cpu) xs) (encode cpu x)
 
   -- ---- whole events
 
@@ -110,11 +114,15 @@ module _ (cpu : ℕ) where
     count : overflow capacity room (map (encode cpu) xs) ≡ length (map (encode cpu) gone)
     count = overflow-older capacity room within xs ∙ sym (length-map gone (encode cpu))
 
-    pub take-older : take (overflow capacity room (map (encode cpu) xs)) (map (encode cpu) xs) ≡ map (encode cpu) gone
+    take-older : take (overflow capacity room (map (encode cpu) xs)) (map (encode cpu) xs) ≡ map (encode cpu) gone
     take-older = ap₂ (λ (n : ℕ) (l : List (List ℕ)). take n l) count cut ∙ take-append-seam (map (encode cpu) gone) (map (encode cpu) rest)
 
-    pub drop-latest : drop (overflow capacity room (map (encode cpu) xs)) (map (encode cpu) xs) ≡ map (encode cpu) rest
-    drop-latest = ap₂ (λ (n : ℕ) (l : List (List ℕ)). drop n l) count cut ∙ drop-append-seam (map (encode cpu) gone) (map (encode cpu) rest)
+    -- what is left when these have gone
+    pub drop-older : drop (total (bytes size) gone) (joined (map (encode cpu) xs)) ≡ joined (map (encode cpu) rest)
+    drop-older =
+        ap (λ (l : List (List ℕ)). drop (total (bytes size) gone) (joined l)) cut
+        ∙ ap (drop (total (bytes size) gone)) (joined-append (map (encode cpu) gone) (map (encode cpu) rest))
+        ∙ drop-at (joined (map (encode cpu) gone)) (joined (map (encode cpu) rest)) (total (bytes size) gone) (joined-length gone)
 
     pub walk-older : Each cpu (map (encode cpu) xs) → (tail : ℕ)
         → walkFrom cpu capacity room (joined (map (encode cpu) xs)) tail 0 ≡ Room (tail + total (bytes size) gone) (length gone)

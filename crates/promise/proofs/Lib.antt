@@ -3,3 +3,4 @@ pub mod Stored
 pub mod Consumer
 pub mod Holds
 pub mod Step
+pub mod Demand2

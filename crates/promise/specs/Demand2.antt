@@ -27,10 +27,10 @@ use Rattle.emit.specs.declared.Outcome.the-variants.{Done, Wake, Dropped, Refus
 use Rattle.inspect.specs.Inspect.{inspected}
 use Rattle.inspect.specs.declared.Inspected.the-variants.{Whole}
 use Rattle.writer.specs.declared.Writer.{Writer}
-use Rattle.history.specs.Runs.{total, LongestRun}
+use Rattle.history.specs.Runs.{LongestRun}
 use Rattle.history.specs.Ring.{Numbered, Ring, newest, fresh, write}
 use Rattle.history.specs.Calls.{uses, used, droppedOf}
-use Rattle.promise.specs.Bytes.{Event, size, encode, oldest, State, Turn, Made, made, after, answerOf, callOf, acceptedOf}
+use Rattle.promise.specs.Bytes.{Event, size, taken, encode, oldest, State, Turn, Made, made, after, answerOf, callOf, acceptedOf}
 use Rattle.promise.specs.Holds.{Holds}
 
 -- ---- each call's answer
@@ -59,7 +59,7 @@ Exact capacity last write [] = Unit {0}
 Exact capacity last write (m ∷ ms) =
     ((o : Outcome) → (m .answer .outcome ≡ o) ↔ Given capacity last write (size (m .turn .event)) (waiting (m .turn)) o)
     × (m .answer .writer .last ≡ last + uses (answerOf (m .answer .outcome)))
-    × Exact capacity (m .answer .writer .last) (write + total (λ (x : Numbered Event). size (x .event)) (acceptedOf (m ∷ []))) ms
+    × Exact capacity (m .answer .writer .last) (write + taken (acceptedOf (m ∷ []))) ms
 
 -- ---- the promise
 
@@ -91,7 +91,7 @@ pub record Promise (cpu capacity : ℕ) (beginning : Ring Event) (calls : List M
   pub counts : end .writer .last ≡ length kept + (beginning .dropped + droppedOf (map callOf calls)) + end .writer .overwritten
   pub last : end .writer .last ≡ beginning .last + used (map callOf calls)
   pub dropped : end .writer .dropped ≡ beginning .dropped + droppedOf (map callOf calls)
-  pub written : pageOf (end .ring) .«write_pos» ≡ write size beginning + total (λ (x : Numbered Event). size (x .event)) (acceptedOf calls)
+  pub written : pageOf (end .ring) .«write_pos» ≡ write size beginning + taken (acceptedOf calls)
   -- so the promise can be given again from here
   pub holds : Holds cpu capacity (end .ring) (end .writer) (shown kept end)
 

@@ -1,0 +1,159 @@
+-- The second demand of the bytes: call by call they follow the ring without bytes, whose promise is proved.
+use Prim.Native.Nat.{ℕ, _+_, _-_, _/_, _^_, _≤_, _<_}
+use native.Mathlib.Omega.{arith}
+use mathlib.Core.Path.{_≡_, refl, sym, ap, ap₂, _∙_, subst, subst₂}
+use mathlib.Core.Logic.{inl, inr, _≢_, _↔_}
+use mathlib.Core.Bool.{Bool, true, false}
+use mathlib.Core.List.{List, [], _∷_, _++_, map}
+use lib.ListN.{length, getD}
+use Rattle.table.specs.declared.Refusal.{Refusal}
+use Rattle.page.specs.Page.{pageOf}
+use Rattle.page.specs.Wake.{wakes}
+use Rattle.page.proofs.Sound.{sound-length}
+use Rattle.emit.specs.Emit.{After}
+use Rattle.emit.specs.declared.Outcome.{Outcome}
+use Rattle.emit.specs.declared.Outcome.the-variants.{Done, Wake, Dropped, Refused}
+use Rattle.history.specs.Runs.{total, LongestRun}
+use Rattle.history.specs.Ring.{Numbered, Ring, given, bytes, write, emit}
+use Rattle.history.specs.Calls.{Call, uses, used, droppedOf, accepted, call, calls}
+use Rattle.history.specs.Calls.{after as afterCalls}
+use Rattle.history.proofs.Demand2.{one2, demand2 as abstract2}
+use Rattle.promise.specs.Bytes.{Event, size, taken, encode, State, Turn, consumed, emitted, left, Made, made, after, answerOf, callOf, acceptedOf}
+use Rattle.promise.specs.Holds.{Holds}
+use Rattle.promise.specs.Demand2.{Acceptable, Given, waiting, Exact, shown, Promise, Demand2}
+use Rattle.promise.proofs.Encoding.{encode-lengths}
+use Rattle.promise.proofs.Consumer.{consumed-holds, consumed-wake}
+use Rattle.promise.proofs.Holds.{holds-opened, holds-inspected}
+use Rattle.promise.proofs.Step.{Stepped, step}
+
+-- ---- at most one outcome is to be given
+
+module _ (capacity last write size : ℕ) (waits : Bool) where
+  differ : waits ≡ true → waits ≡ false → ⊥
+  differ so not-so = let z : _≡_ {A = ℕ} 0 1 = cc in omega arith
+
+  not-refused : (r : Refusal) → Acceptable capacity last write size → Given capacity last write size waits (Refused r) → ⊥
+  not-refused r a (inl q) = a .0 (q .1)
+  not-refused r a (inr q) = omega (arith, a .2, q .3)
+
+  not-dropped-refused : (r : Refusal) → Given capacity last write size waits Dropped → Given capacity last write size waits (Refused r) → ⊥
+  not-dropped-refused r d (inl q) = d .0 (q .1)
+  not-dropped-refused r d (inr q) = omega (arith, d .1, q .2)
+
+  one-refusal : (r q : Refusal) → Given capacity last write size waits (Refused r) → Given capacity last write size waits (Refused q) → r ≡ q
+  one-refusal r q (inl a) (inl b) = a .0 ∙ sym (b .0)
+  one-refusal r q (inl a) (inr b) = absurd (b .1 (a .1))
+  one-refusal r q (inr a) (inl b) = absurd (a .1 (b .1))
+  one-refusal r q (inr a) (inr b) = a .0 ∙ sym (b .0)
+
+  pub given-one : (a b : Outcome) → Given capacity last write size waits a → Given capacity last write size waits b → a ≡ b
+  given-one Done Done f g = refl
+  given-one Done Wake f g = absurd (differ (g .0) (f .0))
+  given-one Done Dropped f g = absurd (omega (arith, f .1 .1, g .1))
+  given-one Done (Refused r) f g = absurd (not-refused r (f .1) g)
+  given-one Wake Done f g = absurd (differ (f .0) (g .0))
+  given-one Wake Wake f g = refl
+  given-one Wake Dropped f g = absurd (omega (arith, f .1 .1, g .1))
+  given-one Wake (Refused r) f g = absurd (not-refused r (f .1) g)
+  given-one Dropped Done f g = absurd (omega (arith, f .1, g .1 .1))
+  given-one Dropped Wake f g = absurd (omega (arith, f .1, g .1 .1))
+  given-one Dropped Dropped f g = refl
+  given-one Dropped (Refused r) f g = absurd (not-dropped-refused r f g)
+  given-one (Refused r) Done f g = absurd (not-refused r (g .1) f)
+  given-one (Refused r) Wake f g = absurd (not-refused r (g .1) f)
+  given-one (Refused r) Dropped f g = absurd (not-dropped-refused r g f)
+  given-one (Refused r) (Refused q) f g = ap Refused (one-refusal r q f g)
+
+  -- so an outcome is given exactly if it is to be
+  pub given-exactly : (answer : Outcome) → Given capacity last write size waits answer → (o : Outcome) → (answer ≡ o) ↔ Given capacity last write size waits o
+  given-exactly answer g o = (
+    λ e. subst (Given capacity last write size waits) e g,
+    given-one answer o g,
+  )
+
+-- ---- a history, call by call
+
+module _ (cpu capacity : ℕ) where
+  abbrev next : Ring Event → Event → Ring Event
+  next ring e = (emit size capacity ring e) .next
+
+  pub turn-step : (s : State) (ring : Ring Event) (t : Turn) → Holds cpu capacity (s .ring) (s .writer) ring
+      → Stepped cpu capacity (waiting t) ring (t .event) (emitted s t) (emit size capacity ring (t .event))
+  unfolding pageOf
+  turn-step s ring t h =
+      subst (λ (b : Bool). Stepped cpu capacity b ring (t .event) (emitted s t) (emit size capacity ring (t .event)))
+      (ap wakes (consumed-wake (s .ring) (t .page) (t .whole) (omega (arith, sound-length (s .ring) (pageOf (s .ring)) (h .sound)))))
+      (step cpu capacity (consumed (s .ring) (t .page)) (s .writer) ring (t .event)
+      (consumed-holds cpu capacity (s .ring) (t .page) (s .writer) ring (t .whole) h))
+
+  abbrev madeOne : State → Turn → Made
+  madeOne s t = record { turn = t; answer = emitted s t .answer }
+
+  same-call : (s : State) (ring : Ring Event) (t : Turn) → Holds cpu capacity (s .ring) (s .writer) ring
+      → callOf (madeOne s t) ≡ call given (emit size capacity) ring (t .event)
+  same-call s ring t h =
+      let a = turn-step s ring t h in
+      λ i. record { event = t .event; answer = a .answer i; sequence = a .holds .last-is i }
+
+  abbrev events : List Turn → List Event
+  events turns = map (λ (t : Turn). t .event) turns
+
+  -- the same calls, and after them the bytes hold the ring
+  pub same-calls : (turns : List Turn) (s : State) (ring : Ring Event) → Holds cpu capacity (s .ring) (s .writer) ring
+      → (map callOf (made s turns) ≡ calls given (emit size capacity) ring (events turns))
+      × Holds cpu capacity (after s turns .ring) (after s turns .writer) (afterCalls (emit size capacity) ring (events turns))
+  unfolding made after calls afterCalls
+  same-calls [] s ring h = (refl, h)
+  same-calls (t ∷ ts) s ring h =
+      let rest = same-calls ts (left (emitted s t)) (next ring (t .event)) (turn-step s ring t h .holds) in
+      (ap₂ (λ (k : Call Event) (ks : List (Call Event)). k ∷ ks) (same-call s ring t h) (rest .0), rest .1)
+
+  exact : (turns : List Turn) (s : State) (ring : Ring Event) → Holds cpu capacity (s .ring) (s .writer) ring
+      → Exact capacity (ring .last) (write size ring) (made s turns)
+  unfolding made
+  exact [] s ring h = tt
+  exact (t ∷ ts) s ring h =
+      let a = turn-step s ring t h in
+      let one = one2 size capacity ring (t .event) (h .holding) in
+      let kind : uses (answerOf (emitted s t .answer .outcome)) ≡ uses ((emit size capacity ring (t .event)) .answer) = ap uses (a .answer) in
+      let write-on : write size (next ring (t .event)) ≡ write size ring + taken (acceptedOf (madeOne s t ∷ [])) =
+      one .written ∙ ap (λ (k : Call Event). write size ring + taken (accepted (k ∷ []))) (sym (same-call s ring t h)) in (
+        given-exactly capacity (ring .last) (write size ring) (size (t .event)) (waiting t) (emitted s t .answer .outcome) (a .given),
+        omega (arith, a .holds .last-is, one .last, kind),
+        subst₂ (λ (n m : ℕ). Exact capacity n m (made (left (emitted s t)) ts)) (sym (a .holds .last-is)) write-on
+            (exact ts (left (emitted s t)) (next ring (t .event)) (a .holds)),
+      )
+
+-- ---- the promise
+
+pub demand2 : Demand2
+demand2 cpu capacity beginning s h turns =
+    let same = same-calls cpu capacity turns s beginning h in
+    let now : State = after s turns in
+    let ring : Ring Event = afterCalls (emit size capacity) beginning (events cpu capacity turns) in
+    let held : Holds cpu capacity (now .ring) (now .writer) ring = same .1 in
+    let promise = abstract2 size capacity beginning (h .holding) (events cpu capacity turns) in
+    let shows : ring ≡ shown (ring .kept) now =
+    (λ i. record {
+      kept = ring .kept;
+      tail = sym (held .tail-is) i;
+      last = sym (held .last-is) i;
+      dropped = sym (held .dropped-is) i;
+      overwritten = sym (held .overwritten-is) i;
+    }) in
+    record {
+      opens = holds-opened cpu capacity (now .ring) (now .writer) ring held;
+      kept = ring .kept;
+      bytes = held .bytes-are;
+      longest = subst₂
+          (λ (f : Numbered Event → ℕ) (ks : List (Call Event)). LongestRun f capacity (beginning .kept ++ accepted ks) (ring .kept))
+          (sym (encode-lengths cpu)) (sym (same .0)) (promise .kept);
+      exact = exact cpu capacity turns s beginning h;
+      inspection = holds-inspected cpu capacity (now .ring) (now .writer) ring held;
+      counts = omega (arith, promise .counts, ap droppedOf (same .0), held .last-is, held .overwritten-is);
+      last = held .last-is ∙ promise .last ∙ ap (λ (ks : List (Call Event)). beginning .last + used ks) (sym (same .0));
+      dropped = held .dropped-is ∙ promise .dropped ∙ ap (λ (ks : List (Call Event)). beginning .dropped + droppedOf ks) (sym (same .0));
+      written = held .write-is ∙ promise .written
+          ∙ ap (λ (ks : List (Call Event)). write size beginning + taken (accepted ks)) (sym (same .0));
+      holds = subst (λ (r : Ring Event). Holds cpu capacity (now .ring) (now .writer) r) shows held;
+    }

@@ -4,3 +4,4 @@ pub mod Consumer
 pub mod Holds
 pub mod Step
 pub mod Demand2
+pub mod Created

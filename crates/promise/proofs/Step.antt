@@ -66,14 +66,14 @@ module _ (cpu capacity : ℕ) (s : List ℕ) (w : Writer) (ring : Ring Event) (e
   goes-spent none = record { answer = refl; given = inl (refl, none); holds = h }
 
   goes-far : ring .last ≢ 2 ^ 64 - 1 → size e ≤ capacity / 2 → 2 ^ 62 < write size ring + size e → goes (refuse s w Far) (record { answer = Refused 9; next = ring })
-  goes-far some half far = record { answer = refl; given = inr (refl, some, half, far); holds = h }
+  goes-far some half far = record { answer = refl; given = inr (refl, some, omega arith, omega arith); holds = h }
 
   goes-dropped : ring .last ≢ 2 ^ 64 - 1 → capacity / 2 < size e → Holding size capacity (dropping size ring)
       → goes (dropped s w) (record { answer = Dropped; next = dropping size ring })
   unfolding dropped
   goes-dropped some above next = record {
     answer = refl;
-    given = (some, above);
+    given = (some, omega arith);
     holds = record {
       narrow = h .narrow;
       sound = h .sound;
@@ -141,7 +141,7 @@ module _ (cpu capacity : ℕ) (s : List ℕ) (w : Writer) (ring : Ring Event) (e
         let back : there - p .«tail_pos» ≡ total (bytes size) gone = omega (arith, h .tail-is) in
         record {
           answer = told-answer waits;
-          given = told-given capacity (ring .last) (write size ring) (size e) waits (some, half, near);
+          given = told-given capacity (ring .last) (write size ring) (size e) waits (some, omega arith, omega arith);
           holds = record {
             narrow = h .narrow;
             sound = stored-sound s p (h .sound) event there far-enough onward not-past fits;

@@ -1,8 +1,7 @@
 -- What the consumer writes into bytes 4096 to 8191 is seen through need_wake alone.
 use Prim.Native.Nat.{ℕ, _+_, _-_, _≤_, _<_}
 use native.Mathlib.Omega.{arith}
-use mathlib.Core.Path.{_≡_, ap, ap₂, _∙_, subst}
-use mathlib.Core.Logic.{_⊎_, inl, inr, ⊎-elim}
+use mathlib.Core.Path.{_≡_, ap, _∙_}
 use mathlib.Core.List.{List, _++_}
 use lib.ListN.{length, take, drop, getD, length-append, length-drop, List·getD-append}
 use lib.Seq.{length-take-le, getD-take, getD-drop, getD-append-add}
@@ -10,10 +9,8 @@ use Rattle.word.specs.Number.{number}
 use Rattle.word.proofs.Reading.{number-same, number-one}
 use Rattle.page.specs.Page.{pageOf}
 use Rattle.page.specs.Sound.{Sound}
-use Rattle.page.specs.declared.Page.{Page}
 use Rattle.page.proofs.Sound.{sound-length}
 use Rattle.page.proofs.Alike.{alike-below, resound}
-use Rattle.region.specs.Region.{bytesAt}
 use Rattle.region.proofs.Bytes.{bytes-same}
 use Rattle.look.specs.Live.{rest, live}
 use Rattle.writer.specs.declared.Writer.{Writer}

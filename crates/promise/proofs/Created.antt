@@ -2,7 +2,7 @@
 use Prim.Native.Nat.{ℕ, _+_, _-_, _^_, _<_}
 use native.Mathlib.Omega.{arith}
 use mathlib.Core.Path.{_≡_, refl, sym, ap, _∙_, subst}
-use mathlib.Core.Bool.{true, false, not}
+use mathlib.Core.Bool.{true, not}
 use mathlib.Core.List.{List, [], map}
 use lib.ListN.{length}
 use Rattle.capacity.specs.Capacity.{allowed}
@@ -19,7 +19,7 @@ use Rattle.create.specs.declared.Created.the-variants as creates
 use Rattle.create.proofs.Laws.{size-passed}
 use Rattle.history.specs.Ring.{fresh}
 use Rattle.history.proofs.Emission.{fresh-holds}
-use Rattle.promise.specs.Bytes.{Event, size, encode}
+use Rattle.promise.specs.Bytes.{size, encode}
 use Rattle.promise.specs.Holds.{Holds}
 use Rattle.promise.specs.Demand2.{zeros, createdState, Fresh2}
 use Rattle.promise.proofs.Demand2.{demand2}

@@ -5,7 +5,7 @@ use mathlib.Core.Path.{_≡_, refl, sym, ap, ap₂, _∙_, subst}
 use mathlib.Core.List.{List, [], _∷_, _++_, map}
 use lib.ListN.{length, take, drop, length-map}
 use lib.Seq.{take-append-seam, drop-at}
-use Rattle.event.specs.Event.{eventBytes, Fit, sequence}
+use Rattle.event.specs.Event.{Fit, sequence}
 use Rattle.event.specs.Run.{joined, Each, Rising, Whole, lastOf}
 use Rattle.event.specs.Walk.{walkFrom, overflow}
 use Rattle.event.specs.declared.Walk.the-variants.{Room}

@@ -1,28 +1,26 @@
 -- What is told of bytes and a record that hold a ring: the page opens, the record is right, and inspection finds the kept events.
-use Prim.Native.Nat.{ℕ, _+_, _-_, _^_, _≤_, _<_}
+use Prim.Native.Nat.{ℕ, _≤_}
 use native.Mathlib.Omega.{arith}
-use mathlib.Core.Path.{_≡_, refl, sym, ap, ap₂, _∙_, subst}
+use mathlib.Core.Path.{_≡_, sym, ap, _∙_, subst}
 use mathlib.Core.Bool.{false}
-use mathlib.Core.List.{List, [], _∷_, _++_, map}
+use mathlib.Core.List.{List, map}
 use lib.ListN.{length, length-map}
 use Rattle.capacity.proofs.Laws.{allowed-range}
 use Rattle.page.specs.Page.{pageOf, opened}
 use Rattle.page.specs.declared.Page.{Page}
 use Rattle.page.specs.declared.Opened.the-variants as opens
 use Rattle.page.proofs.Sound.{opens-sound}
-use Rattle.event.specs.Run.{joined, Whole, lastOf}
-use Rattle.look.specs.Live.{live}
+use Rattle.event.specs.Run.{Whole, lastOf}
 use Rattle.writer.specs.Writer.{wrongWriter}
 use Rattle.writer.specs.declared.Writer.{Writer}
 use Rattle.writer.proofs.Laws.{not-wrong}
-use Rattle.inspect.specs.Inspect.{firstOf, surveyed, summary, inspected}
+use Rattle.inspect.specs.Inspect.{firstOf, summary, inspected}
 use Rattle.inspect.specs.declared.Survey.{Survey}
 use Rattle.inspect.specs.declared.Inspected.the-variants as answers
 use Rattle.inspect.proofs.Surveys.{survey-all}
 use Rattle.inspect.proofs.Answers.{inspected-whole}
-use Rattle.history.specs.Runs.{total}
-use Rattle.history.specs.Ring.{Ring, newest, bytes}
-use Rattle.promise.specs.Bytes.{Event, size, encode, oldest}
+use Rattle.history.specs.Ring.{Ring, newest}
+use Rattle.promise.specs.Bytes.{Event, encode, oldest}
 use Rattle.promise.specs.Holds.{Holds}
 use Rattle.promise.proofs.Encoding.{encode-whole, encode-first}
 

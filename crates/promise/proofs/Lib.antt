@@ -3,5 +3,8 @@ pub mod Stored
 pub mod Consumer
 pub mod Holds
 pub mod Step
+pub mod Given
 pub mod Demand2
 pub mod Created
+pub mod Unrefused
+pub mod Decided

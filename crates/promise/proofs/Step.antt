@@ -4,22 +4,19 @@ use native.Mathlib.Omega.{arith}
 use mathlib.Core.Path.{_≡_, refl, sym, ap, ap₂, _∙_, subst}
 use mathlib.Core.Logic.{inl, inr, _≢_}
 use mathlib.Core.Bool.{Bool, true, false}
-use mathlib.Core.List.{List, [], _∷_, _++_, map}
-use lib.ListN.{length, drop, length-append}
+use mathlib.Core.List.{List, _++_}
+use lib.ListN.{length, drop}
 use Rattle.table.specs.declared.Refusal.the-variants.{Spent, Far}
-use Rattle.word.specs.Number.{number}
 use Rattle.page.specs.Page.{pageOf}
 use Rattle.page.specs.Wake.{wakes}
 use Rattle.page.specs.declared.Page.{Page}
 use Rattle.event.specs.Event.{eventBytes}
-use Rattle.event.specs.Run.{joined}
 use Rattle.event.specs.Walk.{walkFrom}
 use Rattle.event.specs.declared.Walk.the-variants.{Room}
 use Rattle.look.specs.Live.{live}
 use Rattle.writer.specs.Writer.{wrongWriter}
 use Rattle.writer.specs.declared.Writer.{Writer}
 use Rattle.emit.specs.Emit.{After, refuse, dropped, eventOf, told, accepted, emittedOn, emission}
-use Rattle.emit.specs.declared.Label.{Label}
 use Rattle.emit.proofs.Laws.{event-length}
 use Rattle.emit.proofs.Cases.{on-sound, spent, is-dropped, too-far, is-placed, agreed}
 use Rattle.history.specs.Runs.{total, latest, older}
@@ -33,7 +30,7 @@ use Rattle.promise.specs.Holds.{Holds}
 use Rattle.promise.specs.Demand2.{Acceptable, Given}
 use Rattle.promise.proofs.Encoding.{joined-one, drop-older, walk-older}
 use Rattle.promise.proofs.Stored.{stored-cpu, stored-capacity, stored-write, stored-tail, stored-sound, stored-live}
-use Rattle.promise.proofs.Holds.{holds-range, holds-counted, holds-whole}
+use Rattle.promise.proofs.Holds.{holds-counted, holds-whole}
 
 -- what an emission leaves, beside what it leaves on the ring without bytes; `waits` says whether the consumer does
 pub record Stepped (cpu capacity : ℕ) (waits : Bool) (ring : Ring Event) (e : Event) (a : After) (m : Emitted (Ring Event)) : Type 0 where

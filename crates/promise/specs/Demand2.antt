@@ -7,12 +7,14 @@
 --   by one that keeps less than it could, or moves the tail to anything but an event's start: `bytes` with `longest`;
 --   by one that gives a number twice or leaves one out: `exact`, `last`;
 --   by one that invents dropped or overwritten: `dropped`, `counts` with `inspection`.
+-- `Decided2` says it of all others.
 use Prim.Native.Nat.{ℕ, _+_, _-_, _/_, _^_, _≤_, _<_}
 use mathlib.Core.Path.{_≡_}
 use mathlib.Core.Logic.{_⊎_, _≢_, _↔_}
 use mathlib.Core.Bool.{Bool, true, false}
 use mathlib.Core.List.{List, [], _∷_, _++_, map}
 use lib.ListN.{length, getD}
+use Rattle.table.specs.declared.Refusal.{Refusal}
 use Rattle.table.specs.declared.Refusal.the-variants.{Spent, Far}
 use Rattle.capacity.specs.Capacity.{allowed}
 use Rattle.page.specs.Page.{pageOf, opened}
@@ -27,7 +29,7 @@ use Rattle.emit.specs.declared.Outcome.the-variants.{Done, Wake, Dropped, Refus
 use Rattle.inspect.specs.Inspect.{inspected}
 use Rattle.inspect.specs.declared.Inspected.the-variants.{Whole}
 use Rattle.writer.specs.declared.Writer.{Writer}
-use Rattle.history.specs.Runs.{LongestRun}
+use Rattle.history.specs.Runs.{total, LongestRun}
 use Rattle.history.specs.Ring.{Numbered, Ring, newest, fresh, write}
 use Rattle.history.specs.Calls.{uses, used, droppedOf}
 use Rattle.promise.specs.Bytes.{Event, size, taken, encode, oldest, State, Turn, Made, made, after, answerOf, callOf, acceptedOf}
@@ -60,6 +62,11 @@ Exact capacity last write (m ∷ ms) =
     ((o : Outcome) → (m .answer .outcome ≡ o) ↔ Given capacity last write (size (m .turn .event)) (waiting (m .turn)) o)
     × (m .answer .writer .last ≡ last + uses (answerOf (m .answer .outcome)))
     × Exact capacity (m .answer .writer .last) (write + taken (acceptedOf (m ∷ []))) ms
+
+-- no call was refused
+abbrev pub NoneRefused : List Made → Type 0
+NoneRefused [] = Unit {0}
+NoneRefused (m ∷ ms) = ((r : Refusal) → m .answer .outcome ≢ Refused r) × NoneRefused ms
 
 -- ---- the promise
 
@@ -114,3 +121,23 @@ abbrev pub Fresh2 : Type 0
 Fresh2 =
     (cpu capacity : ℕ) → cpu < 2 ^ 16 → allowed capacity ≡ true → (buffer : List ℕ) → length buffer ≡ 8192 + capacity → (turns : List Turn) →
     (created buffer ≡ creates.Done) × Promise cpu capacity fresh (made (createdState cpu buffer) turns) (after (createdState cpu buffer) turns)
+
+-- neither 8 nor 9 comes early: while numbers and positions suffice for all events of a history, no call is refused
+abbrev pub Unrefused2 : Type 0
+Unrefused2 =
+    (cpu capacity : ℕ) (beginning : Ring Event) (s : State) → Holds cpu capacity (s .ring) (s .writer) beginning → (turns : List Turn) →
+    beginning .last + length turns < 2 ^ 64 → write size beginning + total (λ (t : Turn). size (t .event)) turns ≤ 2 ^ 62 →
+    NoneRefused (made s turns)
+
+-- the promise leaves no choice: whatever meets it, with the same consumer and the same events, gives these answers and leaves these bytes,
+-- positions and this record
+abbrev pub Decided2 : Type 0
+Decided2 =
+    (cpu capacity : ℕ) (beginning : Ring Event) (calls others : List Made) (one other : State) →
+    map (λ (m : Made). m .turn) calls ≡ map (λ (m : Made). m .turn) others →
+    Promise cpu capacity beginning calls one → Promise cpu capacity beginning others other →
+    (map (λ (m : Made). m .answer .outcome) calls ≡ map (λ (m : Made). m .answer .outcome) others)
+    × (one .writer ≡ other .writer)
+    × (pageOf (one .ring) .«tail_pos» ≡ pageOf (other .ring) .«tail_pos»)
+    × (pageOf (one .ring) .«write_pos» ≡ pageOf (other .ring) .«write_pos»)
+    × (live (one .ring) (pageOf (one .ring)) ≡ live (other .ring) (pageOf (other .ring)))

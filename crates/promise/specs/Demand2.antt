@@ -32,7 +32,7 @@ use Rattle.writer.specs.declared.Writer.{Writer}
 use Rattle.history.specs.Runs.{total, LongestRun}
 use Rattle.history.specs.Ring.{Numbered, Ring, newest, fresh, write}
 use Rattle.history.specs.Calls.{uses, used, droppedOf}
-use Rattle.promise.specs.Bytes.{Event, size, taken, encode, oldest, State, Turn, Made, made, after, answerOf, callOf, acceptedOf}
+use Rattle.promise.specs.Bytes.{Event, size, taken, encode, oldest, State, consumed, Turn, Made, made, after, answerOf, callOf, acceptedOf}
 use Rattle.promise.specs.Holds.{Holds}
 
 -- ---- each call's answer
@@ -96,8 +96,11 @@ pub record Promise (cpu capacity : ℕ) (beginning : Ring Event) (calls : List M
   -- "The last number given out equals events kept, dropped and overwritten together": kept is inspection's count, dropped is from the calls,
   -- overwritten is the record's
   pub counts : end .writer .last ≡ length kept + (beginning .dropped + droppedOf (map callOf calls)) + end .writer .overwritten
+  -- each call that isn't refused uses one number
   pub last : end .writer .last ≡ beginning .last + used (map callOf calls)
+  -- the record's dropped is the calls' too
   pub dropped : end .writer .dropped ≡ beginning .dropped + droppedOf (map callOf calls)
+  -- positions count the bytes of the accepted events
   pub written : pageOf (end .ring) .«write_pos» ≡ write size beginning + taken (acceptedOf calls)
   -- so the promise can be given again from here
   pub holds : Holds cpu capacity (end .ring) (end .writer) (shown kept end)
@@ -116,11 +119,18 @@ zeros = record { last = 0; dropped = 0; overwritten = 0 }
 abbrev pub createdState : ℕ → List ℕ → State
 createdState cpu buffer = record { ring = afterCreate cpu buffer; writer = zeros }
 
--- from a fresh ring, the first case: any cpu_id, any allowed capacity, any buffer of its length
+-- from a fresh ring, the first case: any cpu_id, any allowed capacity, any buffer of its length. Nothing is kept in `fresh`, and its numbers are 0
 abbrev pub Fresh2 : Type 0
 Fresh2 =
     (cpu capacity : ℕ) → cpu < 2 ^ 16 → allowed capacity ≡ true → (buffer : List ℕ) → length buffer ≡ 8192 + capacity → (turns : List Turn) →
     (created buffer ≡ creates.Done) × Promise cpu capacity fresh (made (createdState cpu buffer) turns) (after (createdState cpu buffer) turns)
+
+-- what the consumer writes after the last call doesn't break it either
+abbrev pub Undisturbed2 : Type 0
+Undisturbed2 =
+    (cpu capacity : ℕ) (beginning : Ring Event) (calls : List Made) (end : State) → Promise cpu capacity beginning calls end →
+    (page : List ℕ) → length page ≡ 4096 →
+    Promise cpu capacity beginning calls (record { ring = consumed (end .ring) page; writer = end .writer })
 
 -- neither 8 nor 9 comes early: while numbers and positions suffice for all events of a history, no call is refused
 abbrev pub Unrefused2 : Type 0

@@ -1,0 +1,97 @@
+-- What the consumer writes into bytes 4096 to 8191 is seen through need_wake alone.
+use Prim.Native.Nat.{ℕ, _+_, _-_, _≤_, _<_}
+use native.Mathlib.Omega.{arith}
+use mathlib.Core.Path.{_≡_, ap, _∙_}
+use mathlib.Core.List.{List, _++_}
+use lib.ListN.{length, take, drop, getD, length-append, length-drop, List·getD-append}
+use lib.Seq.{length-take-le, getD-take, getD-drop, getD-append-add}
+use Rattle.word.specs.Number.{number}
+use Rattle.word.proofs.Reading.{number-same, number-one}
+use Rattle.page.specs.Page.{pageOf}
+use Rattle.page.specs.Sound.{Sound}
+use Rattle.page.proofs.Sound.{sound-length}
+use Rattle.page.proofs.Alike.{alike-below, resound}
+use Rattle.region.proofs.Bytes.{bytes-same}
+use Rattle.look.specs.Live.{rest, live}
+use Rattle.writer.specs.declared.Writer.{Writer}
+use Rattle.history.specs.Ring.{Ring}
+use Rattle.promise.specs.Bytes.{Event, consumed}
+use Rattle.promise.specs.Holds.{Holds}
+
+-- two rings that agree outside bytes 4096 to 8191
+pub record Elsewhere (s t : List ℕ) : Type 0 where
+  pub long : length t ≡ length s
+  pub below : (i : ℕ) → i < 4096 → getD t i 0 ≡ getD s i 0
+  pub beyond : (i : ℕ) → 8192 ≤ i → getD t i 0 ≡ getD s i 0
+
+module _ (s t : List ℕ) (same : Elsewhere s t) where
+  part : (at n : ℕ) → at + n ≤ 4096 → number t at n ≡ number s at n
+  part at n low = number-same t s at at n (λ i l. same .below (at + i) (omega arith))
+
+  pub elsewhere-sound : Sound s (pageOf s) → Sound t (pageOf t)
+  unfolding pageOf
+  elsewhere-sound h =
+      resound s t (pageOf s) h (alike-below s t (same .long) (λ i l. same .below i (omega arith)))
+      (omega (arith, part 32 8 (omega arith), h .begun))
+      (omega (arith, part 64 8 (omega arith), part 72 8 (omega arith), h .order))
+      (omega (arith, part 64 8 (omega arith), part 72 8 (omega arith), h .held))
+      (omega (arith, part 64 8 (omega arith), h .near))
+
+  pub elsewhere-live : live t (pageOf t) ≡ live s (pageOf s)
+  unfolding live rest pageOf
+  elsewhere-live =
+      rw (part 16 8 (omega arith), part 64 8 (omega arith), part 72 8 (omega arith))
+      (bytes-same t s (number s 16 8) (number s 72 8) (number s 64 8 - number s 72 8) (same .beyond))
+
+  -- whatever the ring holds, it holds still
+  pub elsewhere-holds : (cpu capacity : ℕ) (w : Writer) (ring : Ring Event) → Holds cpu capacity s w ring → Holds cpu capacity t w ring
+  unfolding pageOf
+  elsewhere-holds cpu capacity w ring h = record {
+    narrow = h .narrow;
+    sound = elsewhere-sound (h .sound);
+    named = part 12 2 (omega arith) ∙ h .named;
+    sized = part 16 8 (omega arith) ∙ h .sized;
+    tail-is = part 72 8 (omega arith) ∙ h .tail-is;
+    write-is = part 64 8 (omega arith) ∙ h .write-is;
+    bytes-are = elsewhere-live ∙ h .bytes-are;
+    last-is = h .last-is;
+    dropped-is = h .dropped-is;
+    overwritten-is = h .overwritten-is;
+    holding = h .holding;
+  }
+
+-- ---- the consumer's page put over the ring
+
+module _ (s page : List ℕ) (whole : length page ≡ 4096) (long : 8192 ≤ length s) where
+  front : length (take 4096 s) ≡ 4096
+  front = length-take-le 4096 s (omega arith)
+
+  pub consumed-elsewhere : Elsewhere s (consumed s page)
+  unfolding consumed
+  consumed-elsewhere = record {
+    long = omega (arith, length-append (take 4096 s) (page ++ drop 8192 s), length-append page (drop 8192 s), length-drop 8192 s, front);
+    below = λ i l. List·getD-append (take 4096 s) (page ++ drop 8192 s) 0 i (omega (arith, front)) ∙ getD-take 4096 s i 0 l;
+    beyond = λ i l.
+        let there : i ≡ length (take 4096 s) + (length page + (i - 8192)) = omega (arith, front) in
+        let back : 8192 + (i - 8192) ≡ i = omega arith in
+        ap (λ (k : ℕ). getD (take 4096 s ++ (page ++ drop 8192 s)) k 0) there
+        ∙ getD-append-add (take 4096 s) (page ++ drop 8192 s) (length page + (i - 8192)) 0
+        ∙ getD-append-add page (drop 8192 s) (i - 8192) 0
+        ∙ getD-drop 8192 s (i - 8192) 0
+        ∙ ap (λ (k : ℕ). getD s k 0) back;
+  }
+
+  -- need_wake is the page's first byte
+  pub consumed-wake : number (consumed s page) 4096 1 ≡ getD page 0 0
+  unfolding consumed
+  consumed-wake =
+      let there : 4096 ≡ length (take 4096 s) + 0 = omega (arith, front) in
+      number-one (take 4096 s ++ (page ++ drop 8192 s)) 4096
+      ∙ ap (λ (k : ℕ). getD (take 4096 s ++ (page ++ drop 8192 s)) k 0) there
+      ∙ getD-append-add (take 4096 s) (page ++ drop 8192 s) 0 0
+      ∙ List·getD-append page (drop 8192 s) 0 0 (omega arith)
+
+pub consumed-holds : (cpu capacity : ℕ) (s page : List ℕ) (w : Writer) (ring : Ring Event) → length page ≡ 4096
+    → Holds cpu capacity s w ring → Holds cpu capacity (consumed s page) w ring
+consumed-holds cpu capacity s page w ring whole h =
+    elsewhere-holds s (consumed s page) (consumed-elsewhere s page whole (omega (arith, sound-length s (pageOf s) (h .sound)))) cpu capacity w ring h

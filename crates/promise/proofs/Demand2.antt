@@ -1,0 +1,129 @@
+-- The second demand of the bytes: call by call they follow the ring without bytes, whose promise is proved.
+use Prim.Native.Nat.{ℕ, _+_}
+use native.Mathlib.Omega.{arith}
+use mathlib.Core.Path.{_≡_, refl, sym, ap, ap₂, _∙_, subst, subst₂}
+use mathlib.Core.Bool.{Bool}
+use mathlib.Core.List.{List, [], _∷_, _++_, map}
+use lib.ListN.{length}
+use Rattle.page.specs.Page.{pageOf}
+use Rattle.page.specs.Wake.{wakes}
+use Rattle.page.proofs.Sound.{sound-length}
+use Rattle.history.specs.Runs.{LongestRun}
+use Rattle.history.specs.Ring.{Numbered, Ring, given, bytes, write, emit}
+use Rattle.history.specs.Calls.{Call, uses, used, droppedOf, accepted, call, calls}
+use Rattle.history.specs.Calls.{after as afterCalls}
+use Rattle.history.proofs.Demand2.{one2, demand2 as abstract2}
+use Rattle.promise.specs.Bytes.{Event, size, taken, encode, State, Turn, consumed, emitted, left, Made, made, after, answerOf, callOf, acceptedOf}
+use Rattle.promise.specs.Holds.{Holds}
+use Rattle.promise.specs.Demand2.{waiting, Exact, shown, Promise, Demand2, Undisturbed2}
+use Rattle.promise.proofs.Encoding.{encode-lengths}
+use Rattle.promise.proofs.Given.{given-exactly}
+use Rattle.promise.proofs.Consumer.{consumed-holds, consumed-wake}
+use Rattle.promise.proofs.Holds.{holds-opened, holds-inspected}
+use Rattle.promise.proofs.Step.{Stepped, step}
+
+-- ---- a history, call by call
+
+abbrev events : List Turn → List Event
+events turns = map (λ (t : Turn). t .event) turns
+
+module _ (cpu capacity : ℕ) where
+  abbrev next : Ring Event → Event → Ring Event
+  next ring e = (emit size capacity ring e) .next
+
+  pub turn-step : (s : State) (ring : Ring Event) (t : Turn) → Holds cpu capacity (s .ring) (s .writer) ring
+      → Stepped cpu capacity (waiting t) ring (t .event) (emitted s t) (emit size capacity ring (t .event))
+  unfolding pageOf
+  turn-step s ring t h =
+      subst (λ (b : Bool). Stepped cpu capacity b ring (t .event) (emitted s t) (emit size capacity ring (t .event)))
+      (ap wakes (consumed-wake (s .ring) (t .page) (t .whole) (omega (arith, sound-length (s .ring) (pageOf (s .ring)) (h .sound)))))
+      (step cpu capacity (consumed (s .ring) (t .page)) (s .writer) ring (t .event)
+      (consumed-holds cpu capacity (s .ring) (t .page) (s .writer) ring (t .whole) h))
+
+  abbrev madeOne : State → Turn → Made
+  madeOne s t = record { turn = t; answer = emitted s t .answer }
+
+  same-call : (s : State) (ring : Ring Event) (t : Turn) → Holds cpu capacity (s .ring) (s .writer) ring
+      → callOf (madeOne s t) ≡ call given (emit size capacity) ring (t .event)
+  same-call s ring t h =
+      let a = turn-step s ring t h in
+      λ i. record { event = t .event; answer = a .answer i; sequence = a .holds .last-is i }
+
+  -- the same calls, and after them the bytes hold the ring
+  pub same-calls : (turns : List Turn) (s : State) (ring : Ring Event) → Holds cpu capacity (s .ring) (s .writer) ring
+      → (map callOf (made s turns) ≡ calls given (emit size capacity) ring (events turns))
+      × Holds cpu capacity (after s turns .ring) (after s turns .writer) (afterCalls (emit size capacity) ring (events turns))
+  unfolding made after calls afterCalls
+  same-calls [] s ring h = (refl, h)
+  same-calls (t ∷ ts) s ring h =
+      let rest = same-calls ts (left (emitted s t)) (next ring (t .event)) (turn-step s ring t h .holds) in
+      (ap₂ (λ (k : Call Event) (ks : List (Call Event)). k ∷ ks) (same-call s ring t h) (rest .0), rest .1)
+
+  exact : (turns : List Turn) (s : State) (ring : Ring Event) → Holds cpu capacity (s .ring) (s .writer) ring
+      → Exact capacity (ring .last) (write size ring) (made s turns)
+  unfolding made
+  exact [] s ring h = tt
+  exact (t ∷ ts) s ring h =
+      let a = turn-step s ring t h in
+      let one = one2 size capacity ring (t .event) (h .holding) in
+      let kind : uses (answerOf (emitted s t .answer .outcome)) ≡ uses ((emit size capacity ring (t .event)) .answer) = ap uses (a .answer) in
+      let write-on : write size (next ring (t .event)) ≡ write size ring + taken (acceptedOf (madeOne s t ∷ [])) =
+      one .written ∙ ap (λ (k : Call Event). write size ring + taken (accepted (k ∷ []))) (sym (same-call s ring t h)) in (
+        given-exactly capacity (ring .last) (write size ring) (size (t .event)) (waiting t) (emitted s t .answer .outcome) (a .given),
+        omega (arith, a .holds .last-is, one .last, kind),
+        subst₂ (λ (n m : ℕ). Exact capacity n m (made (left (emitted s t)) ts)) (sym (a .holds .last-is)) write-on
+            (exact ts (left (emitted s t)) (next ring (t .event)) (a .holds)),
+      )
+
+-- ---- the promise
+
+-- of bytes and a record that hold a ring of which it holds
+promised : (cpu capacity : ℕ) (beginning : Ring Event) (calls : List Made) (end : State) (ring : Ring Event)
+    → Holds cpu capacity (end .ring) (end .writer) ring
+    → LongestRun (λ (x : Numbered Event). length (encode cpu x)) capacity (beginning .kept ++ acceptedOf calls) (ring .kept)
+    → Exact capacity (beginning .last) (write size beginning) calls
+    → ring .last ≡ beginning .last + used (map callOf calls)
+    → ring .dropped ≡ beginning .dropped + droppedOf (map callOf calls)
+    → write size ring ≡ write size beginning + taken (acceptedOf calls)
+    → Promise cpu capacity beginning calls end
+promised cpu capacity beginning calls end ring h longest exact last dropped written = record {
+  opens = holds-opened cpu capacity (end .ring) (end .writer) ring h;
+  kept = ring .kept;
+  bytes = h .bytes-are;
+  longest = longest;
+  exact = exact;
+  inspection = holds-inspected cpu capacity (end .ring) (end .writer) ring h;
+  counts = omega (arith, h .holding .counts, dropped, h .last-is, h .overwritten-is);
+  last = h .last-is ∙ last;
+  dropped = h .dropped-is ∙ dropped;
+  written = h .write-is ∙ written;
+  holds = subst (λ (r : Ring Event). Holds cpu capacity (end .ring) (end .writer) r) shows h;
+}
+  where
+    shows : ring ≡ shown (ring .kept) end
+    shows = λ i. record {
+      kept = ring .kept;
+      tail = sym (h .tail-is) i;
+      last = sym (h .last-is) i;
+      dropped = sym (h .dropped-is) i;
+      overwritten = sym (h .overwritten-is) i;
+    }
+
+pub demand2 : Demand2
+demand2 cpu capacity beginning s h turns =
+    let same = same-calls cpu capacity turns s beginning h in
+    let ring : Ring Event = afterCalls (emit size capacity) beginning (events turns) in
+    let promise = abstract2 size capacity beginning (h .holding) (events turns) in
+    promised cpu capacity beginning (made s turns) (after s turns) ring (same .1)
+    (subst₂ (λ (f : Numbered Event → ℕ) (ks : List (Call Event)). LongestRun f capacity (beginning .kept ++ accepted ks) (ring .kept))
+    (sym (encode-lengths cpu)) (sym (same .0)) (promise .kept))
+    (exact cpu capacity turns s beginning h)
+    (promise .last ∙ ap (λ (ks : List (Call Event)). beginning .last + used ks) (sym (same .0)))
+    (promise .dropped ∙ ap (λ (ks : List (Call Event)). beginning .dropped + droppedOf ks) (sym (same .0)))
+    (promise .written ∙ ap (λ (ks : List (Call Event)). write size beginning + taken (accepted ks)) (sym (same .0)))
+
+pub undisturbed2 : Undisturbed2
+undisturbed2 cpu capacity beginning calls end p page whole =
+    promised cpu capacity beginning calls (record { ring = consumed (end .ring) page; writer = end .writer }) (shown (p .kept) end)
+    (consumed-holds cpu capacity (end .ring) page (end .writer) (shown (p .kept) end) whole (p .holds))
+    (p .longest) (p .exact) (p .last) (p .dropped) (sym (p .holds .write-is) ∙ p .written)

@@ -1,0 +1,133 @@
+-- Kept events as bytes: as long as they should be, whole, and passed by the walk as the ring without bytes passes them.
+use Prim.Native.Nat.{ℕ, suc, _+_, _-_, _^_, _≤_, _<_}
+use native.Mathlib.Omega.{arith}
+use mathlib.Core.Path.{_≡_, refl, sym, ap, ap₂, _∙_, subst}
+use mathlib.Core.List.{List, [], _∷_, _++_, map}
+use lib.ListN.{length, take, drop, length-map}
+use lib.Seq.{take-append-seam, drop-at}
+use Rattle.event.specs.Event.{Fit, sequence}
+use Rattle.event.specs.Run.{joined, Each, Rising, Whole, lastOf}
+use Rattle.event.specs.Walk.{walkFrom, overflow}
+use Rattle.event.specs.declared.Walk.the-variants.{Room}
+use Rattle.event.proofs.Made.{made-length, made-says}
+use Rattle.event.proofs.Front.{made-one, length-joined, joined-append, joined-more}
+use Rattle.event.proofs.Overflow.{overflow-none, overflow-more, walk-whole}
+use Rattle.inspect.specs.Inspect.{firstOf}
+use Rattle.history.specs.Runs.{total, latest, older}
+use Rattle.history.specs.Ring.{Numbered, newest, bytes}
+use Rattle.history.specs.Ring.{Rising as RisingNumbers}
+use Rattle.history.proofs.Runs.{by-le, older-fits, older-over, older-latest}
+use Rattle.history.proofs.Rising.{rising-length}
+use Rattle.promise.specs.Bytes.{Event, size, encode, oldest}
+
+pub map-append : {A B : Type 0} (f : A → B) (xs ys : List A) → map f (xs ++ ys) ≡ map f xs ++ map f ys
+map-append f [] ys = refl
+map-append {B = B} f (x ∷ xs) ys = ap (λ (l : List B). f x ∷ l) (map-append f xs ys)
+
+module _ (cpu : ℕ) where
+  pub encode-length : (x : Numbered Event) → length (encode cpu x) ≡ size (x .event)
+  unfolding encode
+  encode-length x = made-length cpu (x .sequence) (x .event .timestamp) (x .event .type) (x .event .class) (x .event .payload)
+
+  -- so a size may be read off the bytes
+  pub encode-lengths : (λ (x : Numbered Event). length (encode cpu x)) ≡ bytes size
+  encode-lengths = λ i x. encode-length x i
+
+  pub joined-length : (xs : List (Numbered Event)) → length (joined (map (encode cpu) xs)) ≡ total (bytes size) xs
+  unfolding joined
+  joined-length [] = refl
+  joined-length (x ∷ xs) = omega (arith, length-joined (encode cpu x) (map (encode cpu) xs), encode-length x, joined-length xs)
+
+  -- one event more
+  pub joined-one : (xs : List (Numbered Event)) (x : Numbered Event) → joined (map (encode cpu) (xs ++ (x ∷ []))) ≡ joined (map (encode cpu) xs) ++ encode cpu x
+  joined-one xs x = ap joined (map-append (encode cpu) xs (x ∷ [])) ∙ joined-more (map (encode cpu) xs) (encode cpu x)
+
+  -- ---- whole events
+
+  fit : cpu < 2 ^ 16 → (x : Numbered Event) → size (x .event) < 2 ^ 32 → x .sequence < 2 ^ 64
+      → Fit (32 + length (x .event .payload)) cpu (x .sequence) (x .event .timestamp) (x .event .type) (x .event .class)
+  fit narrow x small given = record {
+    size-fits = small;
+    cpu-fits = narrow;
+    sequence-fits = given;
+    timestamp-fits = x .event .timestamp-fits;
+    type-fits = x .event .type-fits;
+    class-fits = x .event .class-fits;
+  }
+
+  module _ (narrow : cpu < 2 ^ 16) where
+    pub encode-sequence : (x : Numbered Event) → size (x .event) < 2 ^ 32 → x .sequence < 2 ^ 64 → sequence (encode cpu x) ≡ x .sequence
+    unfolding encode
+    encode-sequence x small given =
+        made-says cpu (x .sequence) (x .event .timestamp) (x .event .type) (x .event .class) (x .event .payload) (fit narrow x small given) .sequence-is
+
+    pub encode-whole : (low : ℕ) (xs : List (Numbered Event)) → total (bytes size) xs < 2 ^ 32 → RisingNumbers low xs → newest low xs < 2 ^ 64
+        → Whole cpu low (map (encode cpu) xs) × (lastOf low (map (encode cpu) xs) ≡ newest low xs)
+    unfolding encode
+    encode-whole low [] small rise known = ((tt, tt), refl)
+    encode-whole low (x ∷ xs) small rise known =
+        let given : x .sequence < 2 ^ 64 = omega (arith, rising-length (x .sequence) xs (rise .1)) in
+        let rest = encode-whole (x .sequence) xs (omega arith) (rise .1) known in
+        let same : sequence (encode cpu x) ≡ x .sequence = encode-sequence x (omega arith) given in (
+          (
+            (
+              made-one cpu (x .sequence) (x .event .timestamp) (x .event .type) (x .event .class) (x .event .payload) (fit narrow x (omega arith) given),
+              rest .0 .0,
+            ),
+            (omega (arith, rise .0), subst (λ (n : ℕ). Rising n (map (encode cpu) xs)) (sym same) (rest .0 .1)),
+          ),
+          ap (λ (n : ℕ). lastOf n (map (encode cpu) xs)) same ∙ rest .1,
+        )
+
+    pub encode-first : (xs : List (Numbered Event)) → total (bytes size) xs < 2 ^ 32 → RisingNumbers 0 xs → newest 0 xs < 2 ^ 64
+        → firstOf (map (encode cpu) xs) ≡ oldest xs
+    encode-first [] small rise known = refl
+    encode-first (x ∷ xs) small rise known = encode-sequence x (omega arith) (omega (arith, rising-length (x .sequence) xs (rise .1)))
+
+  -- ---- the walk
+
+  -- as many events go from the bytes as from the list
+  pub overflow-older : (capacity room : ℕ) → room ≤ capacity → (xs : List (Numbered Event))
+      → overflow capacity room (map (encode cpu) xs) ≡ length (older (bytes size) (capacity - room) xs)
+  overflow-older capacity room within [] =
+      overflow-none capacity room [] (omega (arith, joined-length [])) ∙ sym (ap length (older-fits (bytes size) (capacity - room) [] (omega arith)))
+  overflow-older capacity room within (x ∷ xs) =
+      by-le (total (bytes size) (x ∷ xs)) (capacity - room)
+      (λ h.
+      overflow-none capacity room (map (encode cpu) (x ∷ xs)) (omega (arith, joined-length (x ∷ xs)))
+      ∙ sym (ap length (older-fits (bytes size) (capacity - room) (x ∷ xs) h)))
+      (λ h.
+      overflow-more capacity room (encode cpu x) (map (encode cpu) xs) (omega (arith, joined-length (x ∷ xs)))
+      ∙ ap suc (overflow-older capacity room within xs)
+      ∙ sym (ap length (older-over (bytes size) (capacity - room) x xs h)))
+
+  module _ (capacity room : ℕ) (within : room ≤ capacity) (xs : List (Numbered Event)) where
+    abbrev gone : List (Numbered Event)
+    gone = older (bytes size) (capacity - room) xs
+
+    abbrev rest : List (Numbered Event)
+    rest = latest (bytes size) (capacity - room) xs
+
+    cut : map (encode cpu) xs ≡ map (encode cpu) gone ++ map (encode cpu) rest
+    cut = ap (map (encode cpu)) (older-latest (bytes size) (capacity - room) xs) ∙ map-append (encode cpu) gone rest
+
+    count : overflow capacity room (map (encode cpu) xs) ≡ length (map (encode cpu) gone)
+    count = overflow-older capacity room within xs ∙ sym (length-map gone (encode cpu))
+
+    take-older : take (overflow capacity room (map (encode cpu) xs)) (map (encode cpu) xs) ≡ map (encode cpu) gone
+    take-older = ap₂ (λ (n : ℕ) (l : List (List ℕ)). take n l) count cut ∙ take-append-seam (map (encode cpu) gone) (map (encode cpu) rest)
+
+    -- what is left when these have gone
+    pub drop-older : drop (total (bytes size) gone) (joined (map (encode cpu) xs)) ≡ joined (map (encode cpu) rest)
+    drop-older =
+        ap (λ (l : List (List ℕ)). drop (total (bytes size) gone) (joined l)) cut
+        ∙ ap (drop (total (bytes size) gone)) (joined-append (map (encode cpu) gone) (map (encode cpu) rest))
+        ∙ drop-at (joined (map (encode cpu) gone)) (joined (map (encode cpu) rest)) (total (bytes size) gone) (joined-length gone)
+
+    pub walk-older : Each cpu (map (encode cpu) xs) → (tail : ℕ)
+        → walkFrom cpu capacity room (joined (map (encode cpu) xs)) tail 0 ≡ Room (tail + total (bytes size) gone) (length gone)
+    walk-older each tail =
+        let there : tail + length (joined (take (overflow capacity room (map (encode cpu) xs)) (map (encode cpu) xs))) ≡ tail + total (bytes size) gone =
+        ap (λ (l : List (List ℕ)). tail + length (joined l)) take-older ∙ ap (λ (n : ℕ). tail + n) (joined-length gone) in
+        let passed : 0 + overflow capacity room (map (encode cpu) xs) ≡ length gone = omega (arith, overflow-older capacity room within xs) in
+        walk-whole capacity room cpu within (map (encode cpu) xs) each tail 0 ∙ ap₂ Room there passed

@@ -1,0 +1,59 @@
+-- What is told of bytes and a record that hold a ring: the page opens, the record is right, and inspection finds the kept events.
+use Prim.Native.Nat.{ℕ, _≤_}
+use native.Mathlib.Omega.{arith}
+use mathlib.Core.Path.{_≡_, sym, ap, _∙_, subst}
+use mathlib.Core.Bool.{false}
+use mathlib.Core.List.{List, map}
+use lib.ListN.{length, length-map}
+use Rattle.capacity.proofs.Laws.{allowed-range}
+use Rattle.page.specs.Page.{pageOf, opened}
+use Rattle.page.specs.declared.Page.{Page}
+use Rattle.page.specs.declared.Opened.the-variants as opens
+use Rattle.page.proofs.Sound.{opens-sound}
+use Rattle.event.specs.Run.{Whole, lastOf}
+use Rattle.writer.specs.Writer.{wrongWriter}
+use Rattle.writer.specs.declared.Writer.{Writer}
+use Rattle.writer.proofs.Laws.{not-wrong}
+use Rattle.inspect.specs.Inspect.{firstOf, summary, inspected}
+use Rattle.inspect.specs.declared.Survey.{Survey}
+use Rattle.inspect.specs.declared.Inspected.the-variants as answers
+use Rattle.inspect.proofs.Surveys.{survey-all}
+use Rattle.inspect.proofs.Answers.{inspected-whole}
+use Rattle.history.specs.Ring.{Ring, newest}
+use Rattle.promise.specs.Bytes.{Event, encode, oldest}
+use Rattle.promise.specs.Holds.{Holds}
+use Rattle.promise.proofs.Encoding.{encode-whole, encode-first}
+
+module _ (cpu capacity : ℕ) (s : List ℕ) (w : Writer) (ring : Ring Event) (h : Holds cpu capacity s w ring) where
+  pub holds-range : (256 ≤ capacity) × (capacity ≤ 1048576)
+  holds-range = let r = allowed-range (pageOf s .capacity) (h .sound .fit) in (omega (arith, r .0, h .sized), omega (arith, r .1, h .sized))
+
+  pub holds-opened : opened s ≡ opens.Page (pageOf s)
+  holds-opened = opens-sound s (pageOf s) (h .sound)
+
+  -- refusal 7 doesn't meet the record
+  pub holds-counted : wrongWriter w ≡ false
+  holds-counted =
+      not-wrong w (record {
+        dropped-le = omega (arith, h .last-is, h .dropped-is, h .holding .counts);
+        overwritten-le = omega (arith, h .last-is, h .dropped-is, h .overwritten-is, h .holding .counts);
+      })
+
+  pub holds-whole : Whole cpu 0 (map (encode cpu) (ring .kept)) × (lastOf 0 (map (encode cpu) (ring .kept)) ≡ newest 0 (ring .kept))
+  holds-whole =
+      encode-whole cpu (h .narrow) 0 (ring .kept) (omega (arith, h .holding .fits, holds-range)) (h .holding .rising)
+      (omega (arith, h .holding .known, h .holding .spendable))
+
+  -- count, first and last sequence of the kept events
+  pub holds-inspected : inspected s ≡ answers.Whole (record { count = length (ring .kept); first = oldest (ring .kept); last = newest 0 (ring .kept) })
+  holds-inspected =
+      let events : List (List ℕ) = map (encode cpu) (ring .kept) in
+      let whole : Whole (pageOf s .«cpu_id») 0 events = subst (λ (n : ℕ). Whole n 0 events) (sym (h .named)) (holds-whole .0) in
+      let all = survey-all s (pageOf s) (h .sound .order) events (h .bytes-are) whole in
+      let first : firstOf events ≡ oldest (ring .kept) =
+      encode-first cpu (h .narrow) (ring .kept) (omega (arith, h .holding .fits, holds-range)) (h .holding .rising)
+      (omega (arith, h .holding .known, h .holding .spendable)) in
+      let count : length events ≡ length (ring .kept) = length-map (ring .kept) (encode cpu) in
+      inspected-whole s (pageOf s) (h .sound) (ap (λ (v : Survey). v .stop) all)
+      ∙ ap (λ (v : Survey). answers.Whole (summary v)) all
+      ∙ (λ i. answers.Whole (record { count = count i; first = first i; last = holds-whole .1 i }))

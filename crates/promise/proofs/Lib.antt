@@ -1,0 +1,10 @@
+pub mod Encoding
+pub mod Stored
+pub mod Consumer
+pub mod Holds
+pub mod Step
+pub mod Given
+pub mod Demand2
+pub mod Created
+pub mod Unrefused
+pub mod Decided

@@ -1,0 +1,199 @@
+-- One emission on bytes that hold a ring: it answers as the ring without bytes does, and what it leaves holds what that one leaves.
+use Prim.Native.Nat.{ℕ, _+_, _-_, _/_, _^_, _≤_, _<_}
+use native.Mathlib.Omega.{arith}
+use mathlib.Core.Path.{_≡_, refl, sym, ap, ap₂, _∙_, subst}
+use mathlib.Core.Logic.{inl, inr, _≢_}
+use mathlib.Core.Bool.{Bool, true, false}
+use mathlib.Core.List.{List, _++_}
+use lib.ListN.{length, drop}
+use Rattle.table.specs.declared.Refusal.the-variants.{Spent, Far}
+use Rattle.page.specs.Page.{pageOf}
+use Rattle.page.specs.Wake.{wakes}
+use Rattle.page.specs.declared.Page.{Page}
+use Rattle.event.specs.Event.{eventBytes}
+use Rattle.event.specs.Walk.{walkFrom}
+use Rattle.event.specs.declared.Walk.the-variants.{Room}
+use Rattle.look.specs.Live.{live}
+use Rattle.writer.specs.Writer.{wrongWriter}
+use Rattle.writer.specs.declared.Writer.{Writer}
+use Rattle.emit.specs.Emit.{After, refuse, dropped, eventOf, told, accepted, emittedOn, emission}
+use Rattle.emit.proofs.Laws.{event-length}
+use Rattle.emit.proofs.Cases.{on-sound, spent, is-dropped, too-far, is-placed, agreed}
+use Rattle.history.specs.Runs.{total, latest, older}
+use Rattle.history.specs.Ring.{Numbered, Ring, Done, Dropped, Refused, Emitted, bytes, write, dropping, new, storing, emit}
+use Rattle.history.specs.Holding.{Holding}
+use Rattle.history.proofs.Runs.{total-append, latest-room, older-latest}
+use Rattle.history.proofs.Emission.{emit-cases, passed-counted, storing-write}
+use Rattle.history.proofs.Demand2.{one2}
+use Rattle.promise.specs.Bytes.{Event, size, encode, labelOf, answerOf}
+use Rattle.promise.specs.Holds.{Holds}
+use Rattle.promise.specs.Demand2.{Acceptable, Given}
+use Rattle.promise.proofs.Encoding.{joined-one, drop-older, walk-older}
+use Rattle.promise.proofs.Stored.{stored-cpu, stored-capacity, stored-write, stored-tail, stored-sound, stored-live}
+use Rattle.promise.proofs.Holds.{holds-counted, holds-whole}
+
+-- what an emission leaves, beside what it leaves on the ring without bytes; `waits` says whether the consumer does
+pub record Stepped (cpu capacity : ℕ) (waits : Bool) (ring : Ring Event) (e : Event) (a : After) (m : Emitted (Ring Event)) : Type 0 where
+  pub answer : answerOf (a .answer .outcome) ≡ m .answer
+  pub given : Given capacity (ring .last) (write size ring) (size e) waits (a .answer .outcome)
+  pub holds : Holds cpu capacity (a .ring) (a .answer .writer) (m .next)
+
+-- Wake exactly if the consumer waits
+told-answer : (b : Bool) → answerOf (told b) ≡ Done
+told-answer true = refl
+told-answer false = refl
+
+told-given : (capacity last write size : ℕ) (b : Bool) → Acceptable capacity last write size → Given capacity last write size b (told b)
+told-given capacity last write size true h = (refl, h)
+told-given capacity last write size false h = (refl, h)
+
+module _ (cpu capacity : ℕ) (s : List ℕ) (w : Writer) (ring : Ring Event) (e : Event) (h : Holds cpu capacity s w ring) where
+  abbrev p : Page
+  p = pageOf s
+
+  abbrev waits : Bool
+  waits = wakes (p .«need_wake»)
+
+  abbrev goes : After → Emitted (Ring Event) → Type 0
+  goes a m = Stepped cpu capacity waits ring e a m
+
+  -- ---- refused, and dropped
+
+  goes-spent : ring .last ≡ 2 ^ 64 - 1 → goes (refuse s w Spent) (record { answer = Refused 8; next = ring })
+  goes-spent none = record { answer = refl; given = inl (refl, none); holds = h }
+
+  goes-far : ring .last ≢ 2 ^ 64 - 1 → size e ≤ capacity / 2 → 2 ^ 62 < write size ring + size e → goes (refuse s w Far) (record { answer = Refused 9; next = ring })
+  goes-far some half far = record { answer = refl; given = inr (refl, some, omega arith, omega arith); holds = h }
+
+  goes-dropped : ring .last ≢ 2 ^ 64 - 1 → capacity / 2 < size e → Holding size capacity (dropping size ring)
+      → goes (dropped s w) (record { answer = Dropped; next = dropping size ring })
+  unfolding dropped
+  goes-dropped some above next = record {
+    answer = refl;
+    given = (some, omega arith);
+    holds = record {
+      narrow = h .narrow;
+      sound = h .sound;
+      named = h .named;
+      sized = h .sized;
+      tail-is = h .tail-is;
+      write-is = h .write-is;
+      bytes-are = h .bytes-are;
+      last-is = ap (λ (n : ℕ). n + 1) (h .last-is);
+      dropped-is = ap (λ (n : ℕ). n + 1) (h .dropped-is);
+      overwritten-is = h .overwritten-is;
+      holding = next;
+    };
+  }
+
+  -- ---- stored
+
+  abbrev event : List ℕ
+  event = eventOf p w (labelOf e) (e .payload)
+
+  -- the bytes stored are the event's, under the next sequence
+  event-is : event ≡ encode cpu (new ring e)
+  unfolding eventOf encode
+  event-is =
+      ap₂ (λ (n m : ℕ). eventBytes n (m + 1) (e .timestamp) (e .type) (e .class) (e .payload)) (h .named) (h .last-is)
+
+  abbrev gone : List (Numbered Event)
+  gone = older (bytes size) (capacity - size e) (ring .kept)
+
+  abbrev rest : List (Numbered Event)
+  rest = latest (bytes size) (capacity - size e) (ring .kept)
+
+  module _ (some : ring .last ≢ 2 ^ 64 - 1) (half : size e ≤ capacity / 2) (near : write size ring + size e ≤ 2 ^ 62) where
+    abbrev there : ℕ
+    there = ring .tail + total (bytes size) gone
+
+    walk-ends : walkFrom (p .«cpu_id») (p .capacity) (32 + length (e .payload)) (live s p) (p .«tail_pos») 0 ≡ Room there (length gone)
+    walk-ends =
+        (λ i. walkFrom (h .named i) (h .sized i) (size e) (h .bytes-are i) (h .tail-is i) 0)
+        ∙ walk-older cpu capacity (size e) (omega arith) (ring .kept) (holds-whole cpu capacity s w ring h .0 .0) (ring .tail)
+
+    -- what the walk leaves fits with the event
+    parts : total (bytes size) (ring .kept) ≡ total (bytes size) gone + total (bytes size) rest
+    parts = ap (total (bytes size)) (older-latest (bytes size) (capacity - size e) (ring .kept)) ∙ total-append (bytes size) gone rest
+
+    long : length event ≡ size e
+    long = event-length p w (labelOf e) (e .payload)
+
+    far-enough : p .«write_pos» + length event ≤ 2 ^ 62
+    far-enough = omega (arith, h .write-is, long)
+
+    onward : p .«tail_pos» ≤ there
+    onward = omega (arith, h .tail-is)
+
+    not-past : there ≤ p .«write_pos»
+    not-past = omega (arith, h .write-is, parts)
+
+    fits : p .«write_pos» + length event ≤ there + p .capacity
+    fits = omega (arith, h .write-is, h .sized, parts, long, latest-room (bytes size) (capacity - size e) (ring .kept))
+
+    goes-stored : Holding size capacity (storing size capacity ring e)
+        → goes (accepted s p w event there (length gone)) (record { answer = Done; next = storing size capacity ring e })
+    unfolding accepted
+    goes-stored next =
+        let back : there - p .«tail_pos» ≡ total (bytes size) gone = omega (arith, h .tail-is) in
+        record {
+          answer = told-answer waits;
+          given = told-given capacity (ring .last) (write size ring) (size e) waits (some, omega arith, omega arith);
+          holds = record {
+            narrow = h .narrow;
+            sound = stored-sound s p (h .sound) event there far-enough onward not-past fits;
+            named = stored-cpu s p (h .sound) event there ∙ h .named;
+            sized = stored-capacity s p (h .sound) event there ∙ h .sized;
+            tail-is = stored-tail s p (h .sound) event there far-enough onward not-past fits;
+            write-is = stored-write s p (h .sound) event there far-enough onward not-past fits
+                ∙ omega (arith, h .write-is, long, storing-write size capacity ring e);
+            bytes-are = stored-live s p (h .sound) event there far-enough onward not-past fits
+                ∙ ap₂ (λ (n : ℕ) (l : List ℕ). drop n l ++ event) back (h .bytes-are)
+                ∙ ap₂ (λ (l d : List ℕ). l ++ d) (drop-older cpu capacity (size e) (omega arith) (ring .kept)) event-is
+                ∙ sym (joined-one cpu rest (new ring e));
+            last-is = ap (λ (n : ℕ). n + 1) (h .last-is);
+            dropped-is = h .dropped-is;
+            overwritten-is = ap (λ (n : ℕ). n + length gone) (h .overwritten-is);
+            holding = next;
+          };
+        }
+
+  -- ---- the step
+
+  abbrev sent : After
+  sent = emission s w (labelOf e) (e .payload)
+
+  right : wrongWriter w ≡ false
+  right = holds-counted cpu capacity s w ring h
+
+  -- the record says the same as the ring without bytes
+  unspent : ring .last ≢ 2 ^ 64 - 1 → w .last ≡ 2 ^ 64 - 1 → ⊥
+  unspent some none = some (sym (h .last-is) ∙ none)
+
+  half-is : p .capacity / 2 ≡ capacity / 2
+  half-is = ap (λ (n : ℕ). n / 2) (h .sized)
+
+  pub step : Stepped cpu capacity (wakes (pageOf s .«need_wake»)) ring e (emission s w (labelOf e) (e .payload)) (emit size capacity ring e)
+  step =
+      emit-cases size (λ (m : Emitted (Ring Event)). Holding size capacity (m .next) → goes sent m) capacity ring e
+      (λ none next.
+      subst (λ (a : After). goes a (record { answer = Refused 8; next = ring }))
+      (sym (opens ∙ spent s w (labelOf e) (e .payload) p right (h .last-is ∙ none))) (goes-spent none))
+      (λ some above next.
+      subst (λ (a : After). goes a (record { answer = Dropped; next = dropping size ring }))
+      (sym (opens ∙ is-dropped s w (labelOf e) (e .payload) p right (unspent some) (omega (arith, half-is)))) (goes-dropped some above next))
+      (λ some half far next.
+      subst (λ (a : After). goes a (record { answer = Refused 9; next = ring }))
+      (sym (opens ∙ too-far s w (labelOf e) (e .payload) p right (unspent some) (omega (arith, half-is)) (omega (arith, h .write-is))))
+      (goes-far some half far))
+      (λ some half near next.
+      subst (λ (a : After). goes a (record { answer = Done; next = storing size capacity ring e }))
+      (sym
+      (opens ∙ is-placed s w (labelOf e) (e .payload) p right (unspent some) (omega (arith, half-is)) (omega (arith, h .write-is))
+      ∙ agreed s w (labelOf e) (e .payload) p (ring .tail + total (bytes size) gone) (length gone) (walk-ends some half near)
+      (omega (arith, passed-counted size capacity (capacity - size e) ring (h .holding), h .overwritten-is, h .last-is, h .dropped-is))))
+      (goes-stored some half near next))
+      (one2 size capacity ring e (h .holding) .holding)
+    where
+      opens : sent ≡ emittedOn s p w (labelOf e) (e .payload)
+      opens = on-sound s w (labelOf e) (e .payload) p (h .sound)

@@ -1,0 +1,153 @@
+-- The second demand, of the bytes: "the bytes from tail to write position are exactly the longest run of latest accepted events that fits. Only an
+-- event above half the capacity is dropped. The last number given out equals events kept, dropped and overwritten together."
+-- A history is any list of calls, so what holds after it holds at every point of every history. What was accepted and what was dropped is read off
+-- the calls' answers, what is kept off the bytes. So the promise is broken
+--   by an emission that refuses everything, or always answers DROPPED, or tells a consumer that doesn't wait: `exact`;
+--   by one that writes nothing, or stores the first event and only moves positions later: `bytes` with `longest`;
+--   by one that keeps less than it could, or moves the tail to anything but an event's start: `bytes` with `longest`;
+--   by one that gives a number twice or leaves one out: `exact`, `last`;
+--   by one that invents dropped or overwritten: `dropped`, `counts` with `inspection`.
+-- `Decided2` says it of all others.
+use Prim.Native.Nat.{ℕ, _+_, _-_, _/_, _^_, _≤_, _<_}
+use mathlib.Core.Path.{_≡_}
+use mathlib.Core.Logic.{_⊎_, _≢_, _↔_}
+use mathlib.Core.Bool.{Bool, true, false}
+use mathlib.Core.List.{List, [], _∷_, _++_, map}
+use lib.ListN.{length, getD}
+use Rattle.table.specs.declared.Refusal.{Refusal}
+use Rattle.table.specs.declared.Refusal.the-variants.{Spent, Far}
+use Rattle.capacity.specs.Capacity.{allowed}
+use Rattle.page.specs.Page.{pageOf, opened}
+use Rattle.page.specs.Wake.{wakes}
+use Rattle.page.specs.declared.Opened.the-variants as opens
+use Rattle.event.specs.Run.{joined}
+use Rattle.look.specs.Live.{live}
+use Rattle.create.specs.Create.{created, afterCreate}
+use Rattle.create.specs.declared.Created.the-variants as creates
+use Rattle.emit.specs.declared.Outcome.{Outcome}
+use Rattle.emit.specs.declared.Outcome.the-variants.{Done, Wake, Dropped, Refused}
+use Rattle.inspect.specs.Inspect.{inspected}
+use Rattle.inspect.specs.declared.Inspected.the-variants.{Whole}
+use Rattle.writer.specs.declared.Writer.{Writer}
+use Rattle.history.specs.Runs.{total, LongestRun}
+use Rattle.history.specs.Ring.{Numbered, Ring, newest, fresh, write}
+use Rattle.history.specs.Calls.{uses, used, droppedOf}
+use Rattle.promise.specs.Bytes.{Event, size, taken, encode, oldest, State, consumed, Turn, Made, made, after, answerOf, callOf, acceptedOf}
+use Rattle.promise.specs.Holds.{Holds}
+
+-- ---- each call's answer
+
+-- numbers and positions are left, and the event isn't above half the capacity
+abbrev pub Acceptable : ℕ → ℕ → ℕ → ℕ → Type 0
+Acceptable capacity last write size = (last ≢ 2 ^ 64 - 1) × (size ≤ capacity / 2) × (write + size ≤ 2 ^ 62)
+
+-- When an outcome is given, by the capacity, the last sequence and the write position before the call, the event's size, and whether the consumer
+-- waits. No refusal is given but 8 and 9, and neither before the sequences or the positions are used up.
+abbrev pub Given : ℕ → ℕ → ℕ → ℕ → Bool → Outcome → Type 0
+Given capacity last write size waits Done = (waits ≡ false) × Acceptable capacity last write size
+Given capacity last write size waits Wake = (waits ≡ true) × Acceptable capacity last write size
+Given capacity last write size waits Dropped = (last ≢ 2 ^ 64 - 1) × (capacity / 2 < size)
+Given capacity last write size waits (Refused r) =
+    ((r ≡ Spent) × (last ≡ 2 ^ 64 - 1))
+    ⊎ ((r ≡ Far) × (last ≢ 2 ^ 64 - 1) × (size ≤ capacity / 2) × (2 ^ 62 < write + size))
+
+-- the consumer waits: need_wake is the first byte of its page
+abbrev pub waiting : Turn → Bool
+waiting t = wakes (getD (t .page) 0 0)
+
+-- each call has an outcome exactly if it is to be given, and uses the next sequence unless it was refused
+abbrev pub Exact : ℕ → ℕ → ℕ → List Made → Type 0
+Exact capacity last write [] = Unit {0}
+Exact capacity last write (m ∷ ms) =
+    ((o : Outcome) → (m .answer .outcome ≡ o) ↔ Given capacity last write (size (m .turn .event)) (waiting (m .turn)) o)
+    × (m .answer .writer .last ≡ last + uses (answerOf (m .answer .outcome)))
+    × Exact capacity (m .answer .writer .last) (write + taken (acceptedOf (m ∷ []))) ms
+
+-- no call was refused
+abbrev pub NoneRefused : List Made → Type 0
+NoneRefused [] = Unit {0}
+NoneRefused (m ∷ ms) = ((r : Refusal) → m .answer .outcome ≢ Refused r) × NoneRefused ms
+
+-- ---- the promise
+
+-- the ring without bytes that these events, the page and the record make up
+abbrev pub shown : List (Numbered Event) → State → Ring Event
+shown kept s = record {
+  kept = kept;
+  tail = pageOf (s .ring) .«tail_pos»;
+  last = s .writer .last;
+  dropped = s .writer .dropped;
+  overwritten = s .writer .overwritten;
+}
+
+-- of the calls made from a beginning, and of the bytes and the record after them
+pub record Promise (cpu capacity : ℕ) (beginning : Ring Event) (calls : List Made) (end : State) : Type 0 where
+  -- refusals 1 to 6 don't meet the ring
+  pub opens : opened (end .ring) ≡ opens.Page (pageOf (end .ring))
+  pub kept : List (Numbered Event)
+  -- "the bytes from tail to write position are exactly ..": header and payload of each, under the sequence that its call gave
+  pub bytes : live (end .ring) (pageOf (end .ring)) ≡ joined (map (encode cpu) kept)
+  -- ".. the longest run of latest accepted events that fits", an event's size being the number of its bytes
+  pub longest : LongestRun (λ (x : Numbered Event). length (encode cpu x)) capacity (beginning .kept ++ acceptedOf calls) kept
+  -- "Only an event above half the capacity is dropped", and no call is refused but by 8 and 9
+  pub exact : Exact capacity (beginning .last) (write size beginning) calls
+  -- inspection never refuses: it finds the events kept
+  pub inspection : inspected (end .ring) ≡ Whole (record { count = length kept; first = oldest kept; last = newest 0 kept })
+  -- "The last number given out equals events kept, dropped and overwritten together": kept is inspection's count, dropped is from the calls,
+  -- overwritten is the record's
+  pub counts : end .writer .last ≡ length kept + (beginning .dropped + droppedOf (map callOf calls)) + end .writer .overwritten
+  -- each call that isn't refused uses one number
+  pub last : end .writer .last ≡ beginning .last + used (map callOf calls)
+  -- the record's dropped is the calls' too
+  pub dropped : end .writer .dropped ≡ beginning .dropped + droppedOf (map callOf calls)
+  -- positions count the bytes of the accepted events
+  pub written : pageOf (end .ring) .«write_pos» ≡ write size beginning + taken (acceptedOf calls)
+  -- so the promise can be given again from here
+  pub holds : Holds cpu capacity (end .ring) (end .writer) (shown kept end)
+
+-- from any beginning
+abbrev pub Demand2 : Type 0
+Demand2 =
+    (cpu capacity : ℕ) (beginning : Ring Event) (s : State) → Holds cpu capacity (s .ring) (s .writer) beginning → (turns : List Turn) →
+    Promise cpu capacity beginning (made s turns) (after s turns)
+
+-- "all 0 with a fresh ring"
+abbrev pub zeros : Writer
+zeros = record { last = 0; dropped = 0; overwritten = 0 }
+
+-- what creation leaves, and the record that goes with it
+abbrev pub createdState : ℕ → List ℕ → State
+createdState cpu buffer = record { ring = afterCreate cpu buffer; writer = zeros }
+
+-- from a fresh ring, the first case: any cpu_id, any allowed capacity, any buffer of its length. Nothing is kept in `fresh`, and its numbers are 0
+abbrev pub Fresh2 : Type 0
+Fresh2 =
+    (cpu capacity : ℕ) → cpu < 2 ^ 16 → allowed capacity ≡ true → (buffer : List ℕ) → length buffer ≡ 8192 + capacity → (turns : List Turn) →
+    (created buffer ≡ creates.Done) × Promise cpu capacity fresh (made (createdState cpu buffer) turns) (after (createdState cpu buffer) turns)
+
+-- what the consumer writes after the last call doesn't break it either
+abbrev pub Undisturbed2 : Type 0
+Undisturbed2 =
+    (cpu capacity : ℕ) (beginning : Ring Event) (calls : List Made) (end : State) → Promise cpu capacity beginning calls end →
+    (page : List ℕ) → length page ≡ 4096 →
+    Promise cpu capacity beginning calls (record { ring = consumed (end .ring) page; writer = end .writer })
+
+-- neither 8 nor 9 comes early: while numbers and positions suffice for all events of a history, no call is refused
+abbrev pub Unrefused2 : Type 0
+Unrefused2 =
+    (cpu capacity : ℕ) (beginning : Ring Event) (s : State) → Holds cpu capacity (s .ring) (s .writer) beginning → (turns : List Turn) →
+    beginning .last + length turns < 2 ^ 64 → write size beginning + total (λ (t : Turn). size (t .event)) turns ≤ 2 ^ 62 →
+    NoneRefused (made s turns)
+
+-- the promise leaves no choice: whatever meets it, with the same consumer and the same events, gives these answers and leaves these bytes,
+-- positions and this record
+abbrev pub Decided2 : Type 0
+Decided2 =
+    (cpu capacity : ℕ) (beginning : Ring Event) (calls others : List Made) (one other : State) →
+    map (λ (m : Made). m .turn) calls ≡ map (λ (m : Made). m .turn) others →
+    Promise cpu capacity beginning calls one → Promise cpu capacity beginning others other →
+    (map (λ (m : Made). m .answer .outcome) calls ≡ map (λ (m : Made). m .answer .outcome) others)
+    × (one .writer ≡ other .writer)
+    × (pageOf (one .ring) .«tail_pos» ≡ pageOf (other .ring) .«tail_pos»)
+    × (pageOf (one .ring) .«write_pos» ≡ pageOf (other .ring) .«write_pos»)
+    × (live (one .ring) (pageOf (one .ring)) ≡ live (other .ring) (pageOf (other .ring)))

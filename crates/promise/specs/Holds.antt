@@ -1,0 +1,27 @@
+-- A ring's bytes and its writer's record that stand for a ring without bytes. Any such may be the beginning of a history: a created ring,
+-- a ring after any calls, a swapped or a salvaged one.
+use Prim.Native.Nat.{ℕ, _^_, _<_}
+use mathlib.Core.Path.{_≡_}
+use mathlib.Core.List.{List, map}
+use Rattle.page.specs.Page.{pageOf}
+use Rattle.page.specs.Sound.{Sound}
+use Rattle.event.specs.Run.{joined}
+use Rattle.look.specs.Live.{live}
+use Rattle.writer.specs.declared.Writer.{Writer}
+use Rattle.history.specs.Ring.{Ring, write}
+use Rattle.history.specs.Holding.{Holding}
+use Rattle.promise.specs.Bytes.{Event, size, encode}
+
+pub record Holds (cpu capacity : ℕ) (s : List ℕ) (w : Writer) (ring : Ring Event) : Type 0 where
+  pub narrow : cpu < 2 ^ 16
+  pub sound : Sound s (pageOf s)
+  pub named : pageOf s .«cpu_id» ≡ cpu
+  pub sized : pageOf s .capacity ≡ capacity
+  pub tail-is : pageOf s .«tail_pos» ≡ ring .tail
+  pub write-is : pageOf s .«write_pos» ≡ write size ring
+  pub bytes-are : live s (pageOf s) ≡ joined (map (encode cpu) (ring .kept))
+  pub last-is : w .last ≡ ring .last
+  pub dropped-is : w .dropped ≡ ring .dropped
+  pub overwritten-is : w .overwritten ≡ ring .overwritten
+  -- the kept events fit, their sequences rise from above 0 to at most last, last = kept + dropped + overwritten
+  pub holding : Holding size capacity ring

@@ -1,0 +1,3 @@
+pub mod Bytes
+pub mod Holds
+pub mod Demand2

@@ -1,5 +1,4 @@
 pub mod Encoding
-pub mod Stored
 pub mod Consumer
 pub mod Holds
 pub mod Step

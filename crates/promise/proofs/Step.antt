@@ -29,7 +29,7 @@ use Rattle.promise.specs.Bytes.{Event, size, encode, labelOf, answerOf}
 use Rattle.promise.specs.Holds.{Holds}
 use Rattle.promise.specs.Demand2.{Acceptable, Given}
 use Rattle.promise.proofs.Encoding.{joined-one, drop-older, walk-older}
-use Rattle.promise.proofs.Stored.{stored-cpu, stored-capacity, stored-write, stored-tail, stored-sound, stored-live}
+use Rattle.emit.proofs.Stored.{stored-cpu, stored-capacity, stored-write, stored-tail, stored-sound, stored-live}
 use Rattle.promise.proofs.Holds.{holds-counted, holds-whole}
 
 -- what an emission leaves, beside what it leaves on the ring without bytes; `waits` says whether the consumer does

@@ -10,7 +10,10 @@ pub fn write(pen: &mut Pen) {
     unlooked_bytes(pen);
     headers_across_the_end(pen);
     event_sizes(pen);
-    event_fields(pen);
+    header_sizes(pen);
+    cpu_ids(pen);
+    spare_bytes(pen);
+    free_bytes(pen);
     sequences(pen);
     lengths(pen);
     for _ in 0..80 {
@@ -74,33 +77,48 @@ fn headers_across_the_end(pen: &mut Pen) {
 fn event_sizes(pen: &mut Pen) {
     let sketch = Sketch { generation: 2, ..Sketch::new(256, 256 + 90, &[70, 80, 100]) };
     for index in 0..3 {
-        let room = (sketch.write_pos() - sketch.start(index)) as u32;
-        let own = sketch.events[index].0 as u32;
-        for size in [0, 1, 31, 32, 33, own - 1, own + 1, room - 1, room, room + 1, 288, 65_536 + own, 1 << 31, u32::MAX] {
-            damaged_event(pen, &sketch, index, 0, &size.to_le_bytes());
-        }
+        event_sizes_of(pen, &sketch, index);
     }
 }
 
-fn event_fields(pen: &mut Pen) {
-    let sketch = Sketch { generation: 2, cpu_id: 0x0102, ..Sketch::new(256, 256 * 9 + 40, &[70, 80, 100]) };
+fn event_sizes_of(pen: &mut Pen, sketch: &Sketch, index: usize) {
+    let room = (sketch.write_pos() - sketch.start(index)) as u32;
+    let own = sketch.events[index].0 as u32;
+    for size in [0, 1, 31, 32, 33, own - 1, own + 1, room - 1, room, room + 1, 288, 65_536 + own, 1 << 31, u32::MAX] {
+        damaged_event(pen, sketch, index, 0, &size.to_le_bytes());
+    }
+}
+
+fn three_events() -> Sketch {
+    Sketch { generation: 2, cpu_id: 0x0102, ..Sketch::new(256, 256 * 9 + 40, &[70, 80, 100]) }
+}
+
+fn header_sizes(pen: &mut Pen) {
     for header_size in [0, 31, 33, 64, 288, 8192, u16::MAX] {
         let index = pen.random.below(3) as usize;
-        damaged_event(pen, &sketch, index, 4, &header_size.to_le_bytes());
+        damaged_event(pen, &three_events(), index, 4, &header_size.to_le_bytes());
     }
+}
+
+fn cpu_ids(pen: &mut Pen) {
     for cpu_id in [0, 0x0101, 0x0103, 0x0202, 0x0201, 0x8102, u16::MAX] {
         let index = pen.random.below(3) as usize;
-        damaged_event(pen, &sketch, index, 6, &cpu_id.to_le_bytes());
+        damaged_event(pen, &three_events(), index, 6, &cpu_id.to_le_bytes());
     }
-    for spare in 29..32 {
-        for value in [1, 128, 255] {
-            let index = pen.random.below(2) as usize;
-            damaged_event(pen, &sketch, index, spare, &[value]);
-        }
+}
+
+fn spare_bytes(pen: &mut Pen) {
+    for (offset, value) in [(29, 1), (29, 128), (29, 255), (30, 1), (30, 128), (30, 255), (31, 1), (31, 128), (31, 255)] {
+        let index = pen.random.below(2) as usize;
+        damaged_event(pen, &three_events(), index, offset, &[value]);
     }
+}
+
+/// Timestamp, type, class and payload may hold anything.
+fn free_bytes(pen: &mut Pen) {
     for free in [16, 23, 24, 27, 28, 32] {
         let noise = pen.random.bytes(1);
-        damaged_event(pen, &sketch, 0, free, &noise);
+        damaged_event(pen, &three_events(), 0, free, &noise);
     }
 }
 
@@ -134,40 +152,52 @@ fn sequences(pen: &mut Pen) {
         [3, 1 << 32, 4],
     ];
     for row in rows {
-        let mut sketch = Sketch { generation: 4, ..Sketch::new(256, 600, &[50, 60, 70]) };
-        for (event, sequence) in sketch.events.iter_mut().zip(row) {
-            event.1 = sequence;
-        }
-        for last in [0, row[1].saturating_sub(1)] {
-            set_up(pen, &sketch);
-            let handed = pen.random.below(last.max(1));
-            set_readers(pen, sketch.tail_pos, last, handed, 3);
-            Calls { payload: 90, ..Calls::default() }.every(pen);
-        }
+        sequences_before(pen, row, 0);
+        sequences_before(pen, row, row[1].saturating_sub(1));
     }
 }
 
+fn sequences_before(pen: &mut Pen, row: [u64; 3], last: u64) {
+    let events = vec![(50, row[0]), (60, row[1]), (70, row[2])];
+    let sketch = Sketch { generation: 4, events, ..Sketch::new(256, 600, &[]) };
+    set_up(pen, &sketch);
+    let handed = pen.random.below(last.max(1));
+    set_readers(pen, sketch.tail_pos, last, handed, 3);
+    Calls { payload: 90, ..Calls::default() }.every(pen);
+}
+
+const LENGTHS: [u64; 22] = [
+    0, 1, 7, 8, 64, 191, 192, 4097, 8191, 8192, 8193, 8447, 8448, 8449, 8703, 8704, 8705, 12_287, 12_288, 12_289, 40_959, 40_960,
+];
+
 fn lengths(pen: &mut Pen) {
-    let around = [256u64, 512, 4096, 32_768].into_iter().flat_map(|capacity| [capacity + 8191, capacity + 8192, capacity + 8193]);
-    for length in [0, 1, 7, 8, 64, 191, 192, 4097, 8191, 8192, 8193].into_iter().chain(around).filter(|length| *length <= 40_960)
-    {
-        for capacity in [256, 512] {
-            Sketch::new(capacity, 0, &[40]).draw_in(pen, 0, length);
-            pen.writer(0, 1, 0, 0);
-            set_readers(pen, 0, 0, 0, 0);
-            Calls::default().every(pen);
-        }
-        pen.fresh(2, 256, 1);
-        pen.writer(1, 0, 0, 0);
-        pen.emit(2, 1, 5);
-        pen.say(format!("size 3 {length}"));
-        pen.say("swap 2 3 1");
-        pen.say("sum 3");
-        pen.say(format!("size 3 {length}"));
-        pen.say("create 3 65535");
-        pen.say("sum 3");
+    for length in LENGTHS {
+        ring_of_length(pen, length, 256);
+        ring_of_length(pen, length, 512);
+        buffer_of_length(pen, length);
     }
-    pen.say("size 1 8704");
+}
+
+fn ring_of_length(pen: &mut Pen, length: u64, capacity: u64) {
+    Sketch::new(capacity, 0, &[40]).draw_in(pen, 0, length);
+    pen.writer(0, 1, 0, 0);
+    set_readers(pen, 0, 0, 0, 0);
+    Calls::default().every(pen);
+}
+
+/// To be made a ring, by a swap and by creation over what the swap left.
+fn buffer_of_length(pen: &mut Pen, length: u64) {
+    pen.fresh(2, 256, 1);
+    pen.writer(1, 0, 0, 0);
+    pen.emit(2, 1, 5);
+    pen.say(format!("size 3 {length}"));
+    pen.put(3, 4096, &[1]);
+    pen.say("swap 2 3 1");
+    pen.say("sum 3");
+    pen.put(3, 4096, &[1]);
+    pen.put(3, 128, &[9; 64]);
+    pen.say("create 3 65535");
+    pen.say("sum 3");
 }
 
 fn at_random(pen: &mut Pen) {

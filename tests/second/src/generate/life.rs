@@ -82,20 +82,22 @@ impl Life<'_> {
     fn read(&mut self, reader: usize) {
         let lent = if self.pen.random.one_in(8) { self.pen.random.below(160) } else { 40_960 };
         let answer = self.pen.read(self.place[reader], reader, lent);
-        if answer.starts_with("moved") {
-            self.follow(reader);
-        }
+        self.go_on(reader, &answer, lent);
     }
 
-    /// Reads until nothing is left; a refusal ends it too, as after a swap onto the buffer that a slow reader still held.
     fn drain(&mut self, reader: usize) {
         let mut answer = "event".to_string();
         while answer.starts_with("event") {
             answer = self.pen.read(self.place[reader], reader, 40_960);
         }
+        self.go_on(reader, &answer, 40_960);
+    }
+
+    /// A refusal though the output buffer was long enough: another swap has used the buffer that a slow reader still held.
+    fn go_on(&mut self, reader: usize, answer: &str, lent: u64) {
         if answer.starts_with("moved") {
             self.follow(reader);
-        } else if answer.starts_with("refused") {
+        } else if answer.starts_with("refused") && lent == 40_960 {
             self.attach(reader);
         }
     }
@@ -140,8 +142,10 @@ impl Life<'_> {
         let capacity = self.pen.random.pick(&CAPACITIES);
         let too_much = u64::from(self.pen.random.one_in(10));
         self.pen.say(format!("size {to} {}", 8192 + capacity + too_much));
+        // The new buffer isn't empty: a swap that leaves a byte of it standing is seen in its sum.
         let noise = self.pen.random.bytes(16);
         self.pen.put(to, 8200, &noise);
+        self.pen.put(to, 4095, &[7, 1, 7]);
         let answer = self.pen.say(format!("swap {} {to} {}", self.buffer, self.writer));
         self.pen.sum(self.buffer);
         self.pen.sum(to);

@@ -6,22 +6,26 @@ use super::sketch::Sketch;
 pub fn write(pen: &mut Pen) {
     wrong_lines(pen);
     for _ in 0..2600 {
-        let line = any_line(pen);
-        if pen.random.one_in(12) {
-            let spoilt = spoil(pen, line.into_bytes());
-            pen.say(spoilt);
-        } else {
-            pen.say(line);
-        }
-        if pen.random.one_in(60) {
-            new_ring(pen);
-        }
+        one_step(pen);
     }
     for buffer in 0..4 {
         pen.sum(buffer);
     }
     // A rest that no newline ends.
     pen.script.extend_from_slice(b"sum 0");
+}
+
+fn one_step(pen: &mut Pen) {
+    let line = any_line(pen);
+    if pen.random.one_in(12) {
+        let spoilt = spoil(pen, line.into_bytes());
+        pen.say(spoilt);
+    } else {
+        pen.say(line);
+    }
+    if pen.random.one_in(30) {
+        new_ring(pen);
+    }
 }
 
 /// Each decision on fields and lines at least once, on rings that would show it if such a line were obeyed.

@@ -11,9 +11,12 @@ mod sketch;
 
 use pen::Pen;
 
+/// Name, seed and author of a script.
+type Kind = (&'static str, u64, fn(&mut Pen));
+
 /// Name and script of each of the stored set.
 pub fn scripts() -> Vec<(&'static str, Vec<u8>)> {
-    let kinds: [(&str, u64, fn(&mut Pen)); 4] =
+    let kinds: [Kind; 4] =
         [("life", 101, life::write), ("damage", 202, damage::write), ("edges", 303, edges::write), ("mixed", 404, mixed::write)];
     kinds.into_iter().map(|(name, seed, write)| (name, written(seed, write))).collect()
 }

@@ -1,6 +1,6 @@
 //! The records: absurd ones, ones that disagree with the ring, sequences near 2^64.
 
-use crate::generate::calls::{set_readers, Calls};
+use crate::generate::calls::{set_readers, Calls, FOLLOWS, READS};
 use crate::generate::pen::Pen;
 use crate::generate::sketch::Sketch;
 
@@ -60,53 +60,63 @@ fn one_writer(pen: &mut Pen, last: u64, dropped: u64, overwritten: u64) {
 }
 
 fn readers(pen: &mut Pen) {
-    let sketch = Sketch { generation: 3, ..Sketch::new(256, 70, &[80, 80, 96]) };
-    sketch.draw(pen, 0);
+    Sketch { generation: 3, ..Sketch::new(256, 70, &[80, 80, 96]) }.draw(pen, 0);
     let counts =
         [(0, 0), (0, 1), (1, 0), (1, 1), (1, 2), (2, 2), (3, 0), (4, 4), (MAX, 0), (MAX, MAX), (MAX - 1, MAX), (0, MAX), (2, 3)];
     for (last, handed) in counts {
-        for (read_pos, generation) in [(0, 2), (70, 3), (150, 2), (326, 3), (326, 2), (327, 2), (MAX, 0), (230, 4)] {
-            set_readers(pen, read_pos, last, handed, generation);
-            pen.read(0, 0, 40_960);
-            pen.say("follow 0 1");
-        }
+        one_reader(pen, last, handed);
     }
     pen.sum(0);
     pen.say("outsum");
 }
 
-/// One more or one less than the ring holds, for each number of events passed.
-fn disagreements(pen: &mut Pen) {
-    for held in 0..=4u64 {
-        for payload in [0, 32, 64, 96] {
-            Sketch::new(256, 1000, &[64, 64, 64, 64]).draw(pen, 0);
-            pen.writer(0, 20, 9, 11 - held);
-            pen.emit(0, 0, payload);
-            pen.say("swap 0 1 0");
-            pen.writer(0, 20, 11 - held, 9);
-            pen.emit(0, 0, payload);
-            pen.say("swap 0 1 0");
-            pen.sum(0);
-        }
+fn one_reader(pen: &mut Pen, last: u64, handed: u64) {
+    for (read_pos, generation) in [(0, 2), (70, 3), (150, 2), (326, 3), (326, 2), (327, 2), (MAX, 0), (230, 4)] {
+        set_readers(pen, read_pos, last, handed, generation);
+        pen.read(0, READS, 40_960);
+        pen.say(format!("follow 0 {FOLLOWS}"));
     }
+}
+
+/// From none to all of the four events that the ring holds, with one to three of them passed.
+fn disagreements(pen: &mut Pen) {
+    for held in 0..=4 {
+        disagreement(pen, held, 0);
+        disagreement(pen, held, 32);
+        disagreement(pen, held, 64);
+        disagreement(pen, held, 96);
+    }
+}
+
+fn disagreement(pen: &mut Pen, held: u64, payload: u64) {
+    Sketch::new(256, 1000, &[64, 64, 64, 64]).draw(pen, 0);
+    for (dropped, overwritten) in [(9, 11 - held), (11 - held, 9)] {
+        pen.writer(0, 20, dropped, overwritten);
+        pen.emit(0, 0, payload);
+        pen.say("swap 0 1 0");
+    }
+    pen.sum(0);
 }
 
 fn last_sequences(pen: &mut Pen) {
     for left in 0..6 {
-        for payload in [0, 96, 97] {
-            let mut sketch = Sketch { generation: 2, ..Sketch::new(256, 1 << 40, &[80, 80, 96]) };
-            for (event, sequence) in sketch.events.iter_mut().zip(MAX - left - 2..=MAX - left) {
-                event.1 = sequence;
-            }
-            sketch.draw(pen, 0);
-            pen.writer(0, MAX - left, left, MAX - left - left - 3);
-            set_readers(pen, 0, MAX - left - 1, 5, 1);
-            Calls { payload, ..Calls::default() }.every(pen);
-            for _ in 0..3 {
-                pen.emit(1, 0, payload);
-                pen.read(1, 1, 40_960);
-            }
-            pen.say("inspect 1");
-        }
+        last_sequence(pen, left, 0);
+        last_sequence(pen, left, 96);
+        last_sequence(pen, left, 97);
     }
+}
+
+/// A ring and its record with so many numbers left, used up before the swap and after it.
+fn last_sequence(pen: &mut Pen, left: u64, payload: u64) {
+    let last = MAX - left;
+    let events = vec![(80, last - 2), (80, last - 1), (96, last)];
+    Sketch { generation: 2, events, ..Sketch::new(256, 1 << 40, &[]) }.draw(pen, 0);
+    pen.writer(0, last, left, last - left - 3);
+    set_readers(pen, 0, last - 1, 5, 1);
+    Calls { payload, ..Calls::default() }.every(pen);
+    for _ in 0..3 {
+        pen.emit(1, 0, payload);
+        pen.read(1, FOLLOWS, 40_960);
+    }
+    pen.say("inspect 1");
 }

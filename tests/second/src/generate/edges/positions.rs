@@ -7,10 +7,11 @@ use crate::ring::HIGHEST_POSITION;
 
 pub fn write(pen: &mut Pen) {
     pairs(pen);
-    for capacity in [256, 512, 1024] {
-        for below in [0, 1, 31, 32, 33, 64, 127, 128, 129, 300] {
-            up_to_the_highest(pen, capacity, below);
-        }
+    lapped_and_empty(pen);
+    for below in [0, 1, 31, 32, 33, 64, 127, 128, 129, 300] {
+        up_to_the_highest(pen, 256, below);
+        up_to_the_highest(pen, 512, below);
+        up_to_the_highest(pen, 1024, below);
     }
     read_positions(pen);
 }
@@ -62,6 +63,23 @@ fn pairs(pen: &mut Pen) {
     }
 }
 
+/// A reader below the tail of a ring that holds nothing: EMPTY and MOVED hand back the moved read_pos.
+fn lapped_and_empty(pen: &mut Pen) {
+    for position in [1, 255, 256, 600, 1 << 32, HIGHEST_POSITION] {
+        Sketch { generation: 2, ..Sketch::new(256, position, &[]) }.draw(pen, 0);
+        looks_from(pen, 0, 2);
+        looks_from(pen, position - 1, 1);
+        looks_from(pen, position / 2, 3);
+        looks_from(pen, position, 1);
+        looks_from(pen, position + 1, 2);
+    }
+}
+
+fn looks_from(pen: &mut Pen, read_pos: u64, generation: u64) {
+    set_readers(pen, read_pos, 7, 2, generation);
+    Calls::default().looks(pen);
+}
+
 /// A ring whose write_pos is a little below 2^62 takes events until there is no way on; a swap begins again at 0.
 fn up_to_the_highest(pen: &mut Pen, capacity: u64, below: u64) {
     let sizes = [capacity / 4 + 3, capacity / 4, capacity / 4 - 1];
@@ -92,14 +110,17 @@ fn read_positions(pen: &mut Pen) {
     sketch.draw(pen, 0);
     let hidden = sketch.event(pen, 35, 2);
     sketch.put_at(pen, 0, sketch.start(1) + 40, &hidden);
-    let places = [0, 499, 500, 501, 563, 564, 565, 603, 604, 605, 638, 639, 663, 664, 722, 723, 753, 754, 755, 1 << 62, u64::MAX];
-    for read_pos in places {
-        for last in [0, 1, 2] {
-            pen.reader(0, read_pos, last, last, 2);
-            pen.read(0, 0, 40_960);
-        }
+    for read_pos in [0, 499, 500, 501, 563, 564, 565, 603, 604, 605, 638, 639, 663, 664, 722, 723, 753, 754, 755, u64::MAX] {
+        read_at(pen, read_pos, 0);
+        read_at(pen, read_pos, 1);
+        read_at(pen, read_pos, 2);
         pen.reader(0, read_pos, 0, 0, 1);
         pen.say("follow 0 0");
         pen.say("outsum");
     }
+}
+
+fn read_at(pen: &mut Pen, read_pos: u64, last: u64) {
+    pen.reader(0, read_pos, last, last, 2);
+    pen.read(0, 0, 40_960);
 }

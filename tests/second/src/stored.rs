@@ -47,3 +47,18 @@ fn compare(name: &str, stored: &[u8], made: &[u8]) -> Result<(), String> {
 pub fn lines(content: &[u8]) -> Vec<&[u8]> {
     content.split_inclusive(|byte| *byte == b'\n').collect()
 }
+
+#[cfg(test)]
+mod tests {
+    use super::*;
+
+    #[test]
+    fn the_stored_set_is_made_again() {
+        check(Path::new("stored")).unwrap();
+    }
+
+    #[test]
+    fn no_script_is_too_long() {
+        assert!(generate::scripts().iter().all(|(_, script)| script.len() < script::LONGEST_SCRIPT));
+    }
+}

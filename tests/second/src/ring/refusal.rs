@@ -1,0 +1,46 @@
+//! The refusal numbers.
+
+/// Number 17 has no case here: it is given by the C call alone.
+#[derive(Clone, Copy, Debug, PartialEq, Eq)]
+pub enum Refusal {
+    Short,
+    Magic,
+    Version,
+    Layout,
+    Length,
+    Position,
+    Writer,
+    Spent,
+    Far,
+    /// With the position of the event.
+    Damaged(u64),
+    Disagree,
+    NoRoom,
+    Reader,
+    Out,
+    Generation,
+    Size,
+}
+
+impl Refusal {
+    pub fn number(self) -> u8 {
+        match self {
+            Refusal::Short => 1,
+            Refusal::Magic => 2,
+            Refusal::Version => 3,
+            Refusal::Layout => 4,
+            Refusal::Length => 5,
+            Refusal::Position => 6,
+            Refusal::Writer => 7,
+            Refusal::Spent => 8,
+            Refusal::Far => 9,
+            Refusal::Damaged(_) => 10,
+            Refusal::Disagree => 11,
+            Refusal::NoRoom => 12,
+            Refusal::Reader => 13,
+            Refusal::Out => 14,
+            Refusal::Generation => 15,
+            Refusal::Size => 16,
+        }
+    }
+}

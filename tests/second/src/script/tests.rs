@@ -1,0 +1,61 @@
+//! The decisions of README.md on lines and fields.
+
+use super::{answer, LONGEST_SCRIPT};
+
+fn answers(script: &str) -> String {
+    String::from_utf8(answer(script.as_bytes())).unwrap()
+}
+
+#[test]
+fn an_empty_script_answers_nothing() {
+    assert_eq!(answers(""), "");
+}
+
+#[test]
+fn the_longest_script_and_one_byte_more() {
+    let longest = vec![b'\n'; LONGEST_SCRIPT];
+    assert_eq!(answer(&longest).len(), LONGEST_SCRIPT * "unknown\n".len());
+    let longer = vec![b'\n'; LONGEST_SCRIPT + 1];
+    assert_eq!(answer(&longer), b"too long\n");
+}
+
+#[test]
+fn a_rest_without_newline_is_unknown() {
+    assert_eq!(answers("sum 0\nsum 0"), "sum 1\nunknown\n");
+    assert_eq!(answers("sum 0\n\n"), "sum 1\nunknown\n");
+}
+
+#[test]
+fn numbers_have_one_spelling() {
+    assert_eq!(answers("size 0 0\nsize 0 00\nsize 00 0\nsize 0 +1\nsize 0 \n"), "ok\nunknown\nunknown\nunknown\nunknown\n");
+    assert_eq!(answers("size 0 18446744073709551615\n"), "too long\n");
+    assert_eq!(answers("size 0 18446744073709551616\n"), "unknown\n");
+}
+
+#[test]
+fn bytes_are_lower_case_pairs_or_a_dash() {
+    let script = "size 0 4\nput 0 0 0aff\nput 0 0 0AFF\nput 0 0 0af\nput 0 0 \nput 0 4 -\nput 0 5 -\nget 0 0 4\n";
+    assert_eq!(answers(script), "ok\nok\nunknown\nunknown\nunknown\nok\noutside\n0aff0000\n");
+}
+
+#[test]
+fn stretches_that_pass_2_64_are_outside() {
+    let script = "size 0 4\nget 0 18446744073709551615 1\nget 0 1 18446744073709551615\nget 0 4 0\nget 0 5 0\n";
+    assert_eq!(answers(script), "ok\noutside\noutside\n-\noutside\n");
+}
+
+#[test]
+fn fields_above_their_highest_are_wrong() {
+    let script = "sum 4\ncreate 0 65536\nemit 0 0 1 4294967296 1 -\nemit 0 0 1 1 256 -\nemitlen 0 0 1 1 1 40961\nread 0 0 40961\nswap 1 1 0\n";
+    assert_eq!(answers(script), "unknown\n".repeat(7));
+}
+
+#[test]
+fn records_are_handed_back_and_kept() {
+    let script = "size 0 8448\ncreate 0 3\nemit 0 1 5 6 7 aabb\nread 0 2 33\nread 0 2 34\nread 0 2 0\n";
+    let event = "2200000020000300010000000000000005000000000000000600000007000000aabb";
+    let expected = format!(
+        "ok\ndone\ndone writer 1 0 0\nrefused 14 reader 0 0 0 0\nevent 34 bytes {event} reader 34 1 1 0\nmoved reader 34 1 1 0\n"
+    );
+    assert_eq!(answers(script), expected);
+}

@@ -1,0 +1,44 @@
+// The one number that a call answers: 0 done, 1 to 17 refused, 20 DROPPED, 21 done with wake.
+use create::Created;
+use emit::Outcome;
+use inspect::Inspected;
+use table::Refusal;
+use table::paper_number;
+ghost use mathlib.Core.Path.{_≡_};
+ghost use Rattle.table.specs.Refusals.{paperNumber};
+ghost use Rattle.console.specs.Console.{createdNumber, inspectedNumber, emittedNumber};
+
+pub fn refusal_number(refusal: Refusal) -> u32
+    ensures { λ r. ⌜ r ≡ paperNumber refusal ⌝ }
+{
+    paper_number(refusal) as u32
+}
+
+pub fn created_number(created: Created) -> u32
+    ensures { λ r. ⌜ r ≡ createdNumber created ⌝ }
+{
+    match created {
+        Created::Done => 0,
+        Created::Refused(refusal) => refusal_number(refusal),
+    }
+}
+
+pub fn inspected_number(inspected: Inspected) -> u32
+    ensures { λ r. ⌜ r ≡ inspectedNumber inspected ⌝ }
+{
+    match inspected {
+        Inspected::Whole(_) => 0,
+        Inspected::Refused(refusal) => refusal_number(refusal),
+    }
+}
+
+pub fn emitted_number(outcome: Outcome) -> u32
+    ensures { λ r. ⌜ r ≡ emittedNumber outcome ⌝ }
+{
+    match outcome {
+        Outcome::Done => 0,
+        Outcome::Wake => 21,
+        Outcome::Dropped => 20,
+        Outcome::Refused(refusal) => refusal_number(refusal),
+    }
+}

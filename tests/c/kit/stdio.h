@@ -1,0 +1,5 @@
+/* The kit's compiler comes without headers. */
+#ifndef KIT_STDIO_H
+#define KIT_STDIO_H
+int printf(const char *format, ...);
+#endif

@@ -1,0 +1,8 @@
+/* The kit's compiler comes without headers. */
+#ifndef KIT_STRING_H
+#define KIT_STRING_H
+#include <stddef.h>
+void *memcpy(void *to, const void *from, size_t bytes);
+void *memset(void *to, int byte, size_t bytes);
+int memcmp(const void *a, const void *b, size_t bytes);
+#endif

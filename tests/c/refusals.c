@@ -1,0 +1,209 @@
+/*
+ * Each refusal number that the three calls can give, once at least: 1 to 11, 16 and 17.
+ * 12 can't occur: an event that isn't dropped takes at most half the capacity, and with the tail at write_pos the whole capacity is free.
+ * 13, 14 and 15 belong to reading, following and the swap, which C doesn't call.
+ */
+#include "refusals.h"
+
+#include "lamipeonga.h"
+#include "pair.h"
+
+#include <stdio.h>
+#include <string.h>
+
+static const uint64_t FARTHEST = (uint64_t)1 << 62;
+static const uint64_t GREATEST = (uint64_t)-1;
+
+static uint8_t payload[256];
+
+/* a ring of capacity 256 with the events 1 to 4, 64 bytes each: full */
+static void full(void)
+{
+    lend(LAMIPEONGA_RING_BYTES(256), 0);
+    expect_number("a fresh ring", LAMIPEONGA_DONE, create(3));
+    for (int i = 0; i < 4; i++)
+        expect_number("filling", LAMIPEONGA_DONE, emit(0, 0, 0, payload, 32));
+}
+
+static uint32_t emit_small(void)
+{
+    return emit(1, 2, 3, payload, 32);
+}
+
+/* a full ring with one number in its pages changed: both calls refuse it so */
+static void page_refused(uint32_t wanted, size_t at, int width, uint64_t value)
+{
+    full();
+    set_ring(at, width, value);
+    expect_number("emission on a changed page", wanted, emit_small());
+    expect_number("inspection of a changed page", wanted, inspect());
+}
+
+static void pages(void)
+{
+    full();
+    ring_bytes = 8447;
+    expect_number("short", LAMIPEONGA_SHORT, emit_small());
+    expect_number("short", LAMIPEONGA_SHORT, inspect());
+    for (size_t at = 0; at < 8; at++)
+        page_refused(LAMIPEONGA_MAGIC, at, 1, 0);
+    page_refused(LAMIPEONGA_VERSION, 8, 4, 2);
+    page_refused(LAMIPEONGA_LAYOUT, 16, 8, 0);
+    page_refused(LAMIPEONGA_LAYOUT, 16, 8, 128);
+    page_refused(LAMIPEONGA_LAYOUT, 16, 8, 384);
+    page_refused(LAMIPEONGA_LAYOUT, 16, 8, 2097152);
+    page_refused(LAMIPEONGA_LAYOUT, 24, 8, 4096);
+    page_refused(LAMIPEONGA_LAYOUT, 32, 8, 0);
+    page_refused(LAMIPEONGA_LENGTH, 16, 8, 512);
+    page_refused(LAMIPEONGA_POSITION, 72, 8, 257);
+    page_refused(LAMIPEONGA_POSITION, 64, 8, 257);
+    page_refused(LAMIPEONGA_POSITION, 64, 8, GREATEST);
+    full();
+    set_ring(64, 8, FARTHEST + 1);
+    set_ring(72, 8, FARTHEST + 1);
+    expect_number("write above 2^62", LAMIPEONGA_POSITION, inspect());
+}
+
+/* every byte that the table shows zero up to 191, one at a time */
+static void zero_bytes(void)
+{
+    static const struct {
+        size_t at;
+        size_t size;
+    } zeros[] = {{14, 2}, {40, 24}, {80, 48}, {132, 60}};
+    for (size_t part = 0; part < sizeof zeros / sizeof zeros[0]; part++)
+        for (size_t at = zeros[part].at; at < zeros[part].at + zeros[part].size; at++)
+            page_refused(LAMIPEONGA_LAYOUT, at, 1, 128);
+}
+
+static void records(void)
+{
+    full();
+    set_record(8, 5);
+    expect_number("dropped above last", LAMIPEONGA_WRITER, emit_small());
+    set_record(8, 1);
+    set_record(16, 4);
+    expect_number("overwritten above last - dropped", LAMIPEONGA_WRITER, emit_small());
+    full();
+    set_record(0, GREATEST);
+    expect_number("spent", LAMIPEONGA_SPENT, emit_small());
+    full();
+    set_record(16, 4);
+    expect_number("all said to be overwritten", LAMIPEONGA_DISAGREE, emit_small());
+}
+
+static void positions(void)
+{
+    full();
+    set_ring(64, 8, FARTHEST - 63);
+    set_ring(72, 8, FARTHEST - 63);
+    expect_number("a byte too far", LAMIPEONGA_FAR, emit_small());
+    set_ring(64, 8, FARTHEST - 64);
+    set_ring(72, 8, FARTHEST - 64);
+    expect_number("just near enough", LAMIPEONGA_DONE, emit_small());
+}
+
+/* one number of the oldest event's header changed: both calls refuse it */
+static void event_refused(size_t at, int width, uint64_t value)
+{
+    full();
+    set_ring(8192 + at, width, value);
+    expect_number("emission over a damaged event", LAMIPEONGA_DAMAGED, emit_small());
+    expect_number("inspection of a damaged event", LAMIPEONGA_DAMAGED, inspect());
+}
+
+static void events(void)
+{
+    event_refused(0, 4, 31);
+    event_refused(0, 4, 257);
+    event_refused(4, 2, 33);
+    event_refused(6, 2, 4);
+    event_refused(29, 1, 1);
+    event_refused(30, 1, 1);
+    event_refused(31, 1, 1);
+    full();
+    set_ring(72, 8, 225);
+    expect_number("31 bytes left", LAMIPEONGA_DAMAGED, inspect());
+    full();
+    set_ring(8192 + 8, 8, 0);
+    expect_number("the first sequence is 0", LAMIPEONGA_DAMAGED, inspect());
+    expect_number("an emission doesn't look at it", LAMIPEONGA_DONE, emit_small());
+    full();
+    set_ring(8192 + 64 + 8, 8, 1);
+    expect_number("a sequence that doesn't rise", LAMIPEONGA_DAMAGED, inspect());
+}
+
+static void sizes(void)
+{
+    static const size_t wrong[] = {0, 1, 8191, 8192, 8193, 8320, 8447, 8449, 8576, 8703, 8705, 8192 + 3 * 256, 8192 + 1048577};
+    for (size_t i = 0; i < sizeof wrong / sizeof wrong[0]; i++) {
+        lend(wrong[i], 0);
+        expect_number("a length that no ring has", LAMIPEONGA_SIZE, create(3));
+    }
+    for (size_t capacity = LAMIPEONGA_LEAST_CAPACITY; capacity <= LAMIPEONGA_LARGEST_CAPACITY; capacity *= 2) {
+        lend(LAMIPEONGA_RING_BYTES(capacity), 0);
+        expect_number("a length that a ring has", LAMIPEONGA_DONE, create(65535));
+        expect_number("a fresh ring inspected", LAMIPEONGA_DONE, inspect());
+    }
+}
+
+static void record_lengths(void)
+{
+    static const size_t wrong[] = {0, 1, 8, 16, 23, 25, 32, 48};
+    for (size_t i = 0; i < sizeof wrong / sizeof wrong[0]; i++) {
+        full();
+        record_bytes = wrong[i];
+        expect_number("a record that isn't 24 bytes", LAMIPEONGA_RECORD, emit_small());
+        ring_bytes = 0;
+        expect_number("asked before all else", LAMIPEONGA_RECORD, emit_small());
+    }
+}
+
+unsigned run_refusals(void)
+{
+    unsigned met = 0;
+    memset(answered, 0, sizeof answered);
+    pages();
+    zero_bytes();
+    records();
+    positions();
+    events();
+    sizes();
+    record_lengths();
+    for (unsigned number = 1; number <= 17; number++) {
+        int can = number <= 11 || number >= 16;
+        expect((answered[number] != 0) == can, "a refusal number that wasn't met, or can't be");
+        met += answered[number] != 0;
+    }
+    return met;
+}
+
+/* need_wake as found, the answer, and how far futex_counter goes */
+static void woken(uint8_t need_wake, uint32_t wanted, uint64_t step)
+{
+    full();
+    set_ring(LAMIPEONGA_NEED_WAKE_AT, 1, need_wake);
+    set_ring(LAMIPEONGA_FUTEX_COUNTER_AT, 4, 41);
+    expect_number("need_wake", wanted, emit_small());
+    expect_number("futex_counter", 41 + step, number_at(ring[ARCHIVE] + LAMIPEONGA_FUTEX_COUNTER_AT, 4));
+    expect_number("need_wake stays", need_wake, ring[ARCHIVE][LAMIPEONGA_NEED_WAKE_AT]);
+    expect_number("no wake for a dropped event", LAMIPEONGA_DROPPED, emit(1, 2, 3, payload, 97));
+    expect_number("futex_counter stays", 41 + step, number_at(ring[ARCHIVE] + LAMIPEONGA_FUTEX_COUNTER_AT, 4));
+}
+
+static void empty_buffers(void)
+{
+    full();
+    expect_number("no payload", LAMIPEONGA_DONE, emit(1, 2, 3, NULL, 0));
+    expect_number("no record", LAMIPEONGA_RECORD, lamipeonga_emit(NULL, 0, NULL, 0, 0, 0, 0, NULL, 0));
+    expect_number("no ring to inspect", LAMIPEONGA_SHORT, lamipeonga_inspect(NULL, 0));
+    expect_number("no buffer to make a ring", LAMIPEONGA_SIZE, lamipeonga_create(NULL, 0, 0));
+}
+
+void run_edges(void)
+{
+    woken(0, LAMIPEONGA_DONE, 0);
+    woken(1, LAMIPEONGA_WAKE, 1);
+    woken(255, LAMIPEONGA_DONE, 0);
+    empty_buffers();
+}

@@ -6,7 +6,8 @@ use native.Mathlib.Omega.{arith}
 use lib.ListN.{length, length-append}
 use lib.Seq.{sets}
 use Rattle.text.specs.Put.{Put}
-use Rattle.text.proofs.Writing.{sets-append, put-length}
+use Rattle.word.proofs.Runs.{sets-append}
+use Rattle.text.proofs.Writing.{put-length}
 
 -- The invariant: whole was to be put into l at `at`; the buffer is m now, the place is q, and `rest` is left.
 -- The last fact follows from the first; a turn's need of room finds it here.
@@ -22,7 +23,7 @@ put-whole l at whole = record { bytes = refl; place = refl; room = refl }
 pub put-rest : {l : List ℕ} {at : ℕ} {whole m : List ℕ} {q : ℕ} {a b k : List ℕ} {p : ℕ} → Left l at whole m q (a ++ b) → Put m q a k p → Left l at whole k p b
 put-rest {l} {at} {whole} {m} {q} {a} {b} {k} {p} left turn =
     record {
-      bytes = rw (turn .bytes, turn .place, sets-append m q a b) (left .bytes);
+      bytes = rw (turn .bytes, turn .place, ← sets-append a b m q) (left .bytes);
       place = omega (arith, rw length-append at (left .place));
       room = put-length turn ∙ left .room;
     }

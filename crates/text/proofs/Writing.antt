@@ -1,16 +1,12 @@
 -- How writers go together.
-use Prim.Native.Nat.{ℕ, suc, _+_, _≤_}
-use mathlib.Core.Path.{_≡_, refl, _∙_}
+use Prim.Native.Nat.{ℕ, _+_, _≤_}
+use mathlib.Core.Path.{_≡_, refl, sym, _∙_}
 use mathlib.Core.List.{List, [], _∷_, _++_}
-use native.Mathlib.Nat.{add-zero, add-suc, suc-add}
 use native.Mathlib.Omega.{arith}
 use lib.ListN.{length, set, take, drop, length-append}
 use lib.Seq.{sets, length-sets, sets-eq, take-at, drop-at}
+use Rattle.word.proofs.Runs.{sets-append}
 use Rattle.text.specs.Put.{Put, Front}
-
-pub sets-append : (l : List ℕ) (at : ℕ) (a b : List ℕ) → sets (sets l at a) (at + length a) b ≡ sets l at (a ++ b)
-sets-append l at [] b = rw add-zero
-sets-append l at (x ∷ xs) b = rw (add-suc at (length xs), ← suc-add at (length xs)) (sets-append (set l at x) (suc at) xs b)
 
 pub put-none : (l : List ℕ) (at : ℕ) → Put l at [] l at
 put-none l at = record { bytes = refl; place = omega arith }
@@ -20,7 +16,7 @@ put-one l at byte = record { bytes = refl; place = refl }
 
 pub put-then : {l : List ℕ} {at : ℕ} {a m : List ℕ} {p : ℕ} {b k : List ℕ} {q : ℕ} → Put l at a m p → Put m p b k q → Put l at (a ++ b) k q
 put-then {l} {at} {a} {m} {p} {b} {k} {q} f g =
-    record { bytes = g .bytes ∙ (rw (f .bytes, f .place) (sets-append l at a b)); place = rw length-append (omega arith) }
+    record { bytes = g .bytes ∙ rw (f .bytes, f .place) (sym (sets-append a b l at)); place = rw length-append (omega arith) }
 
 -- the next place said otherwise
 pub put-at : {l : List ℕ} {at : ℕ} {a m : List ℕ} {p q : ℕ} → Put l at a m p → q ≡ p → Put l at a m q

@@ -16,7 +16,7 @@ if [ -z "$name" ] || [ ! -f "$root/crates/$name/src/main.rt" ]; then
 fi
 shift
 
-# the mark that a build leaves is older than no file that went into it
+# set when the last build began: a file changed since then is newer
 mark=$root/target/ring/$name
 is_built() {
     [ -x "$root/target/bin/$name" ] && [ -f "$mark" ] && [ -z "$(find "$root/crates" "$root/crates.txt" -newer "$mark" -print -quit)" ]

@@ -1,0 +1,37 @@
+#!/usr/bin/env bash
+# Runs the built listing on every stored ring and compares what it writes, byte for byte, with the text stored under the same name.
+# Every ring has a text and every text a ring, so that none is passed over.
+set -uo pipefail
+cd "$(dirname "$(readlink -f "$0")")/.."
+out=$(mktemp)
+trap 'rm -f "$out"' EXIT
+
+compared=0
+failed=0
+fail() {
+    echo "listing: $1" >&2
+    failed=$((failed + 1))
+}
+
+for ring in examples/*.ring tests/listing/*.ring; do
+    name=$(basename "$ring" .ring)
+    text=tests/listing/$name.txt
+    if [ ! -f "$text" ]; then
+        fail "$ring has no text"
+    elif ! tests/run-program listing <"$ring" >"$out"; then
+        fail "$ring: the program ended with an error"
+    elif ! cmp "$out" "$text" >&2; then
+        fail "$ring: another text than $text"
+    else
+        compared=$((compared + 1))
+    fi
+done
+
+texts=$(ls tests/listing/*.txt | wc -l)
+if [ "$texts" -ne $((compared + failed)) ]; then
+    fail "$texts texts are stored, $((compared + failed)) rings were met"
+fi
+if [ "$failed" -ne 0 ]; then
+    exit 1
+fi
+echo "listing: $compared outputs as expected"

@@ -104,11 +104,17 @@ module _ (cpu capacity : ℕ) where
           subst₂ (λ (f : Numbered Event → ℕ) (all : List (Numbered Event)). LongestRun f capacity all left) (sym (encode-lengths cpu)) (sym (i .since-is))
           (longest-iff (bytes size) capacity (w .since) left .1 (a .left))
 
+      pub last : endOf .last ≡ newest (b .reader .last) left
+      last = ap (λ (r : Reader). newest (r .last) left) (sym (i .reader-is))
+
+      pub handed : endOf .handed ≡ b .reader .handed + length left
+      handed = omega (arith, ap (λ (r : Reader). r .handed) (i .reader-is))
+
       pub counted : endOf .handed ≤ endOf .last
       counted = following-finished size positive (w .ring) (w .reader) (a .following) .handed
 
       abbrev pub emptied : Emptied cpu capacity room b
-      emptied = record { events = left; end = endOf; ended = ended; longest = longest; counted = counted }
+      emptied = record { events = left; end = endOf; ended = ended; longest = longest; last = last; handed = handed; counted = counted }
 
     pub follows-emptying : Follows (emptying b endOf) (idealEmptying size w)
     follows-emptying = record {

@@ -1,6 +1,6 @@
 -- One ring with its writer and its one reader, and what emptying it is: reading until EMPTY, each read by read's own definition, with the record
 -- that the read before handed back.
-use Prim.Native.Nat.{ℕ, _≤_}
+use Prim.Native.Nat.{ℕ, _+_, _≤_}
 use mathlib.Core.Path.{_≡_}
 use mathlib.Core.List.{List, [], _∷_, _++_, map}
 use lib.ListN.{length, drop}
@@ -10,7 +10,7 @@ use Rattle.reader.specs.Read.{Outcome, readOut}
 use Rattle.reader.specs.declared.Reader.{Reader}
 use Rattle.reader.specs.declared.Reading.the-variants as reading
 use Rattle.history.specs.Runs.{LongestRun}
-use Rattle.history.specs.Ring.{Numbered}
+use Rattle.history.specs.Ring.{Numbered, newest}
 use Rattle.promise.specs.Bytes.{Event, encode, State, consumed, Turn, emitted, left, acceptedOf}
 use Rattle.promise.specs.Demand2.{createdState}
 
@@ -79,7 +79,10 @@ pub record Emptied (cpu capacity room : ℕ) (w : Watched) : Type 0 where
   pub ended : Empties room (w .state .ring) (w .reader) (map (encode cpu) events) end
   -- of the events accepted since the last emptying, the longest run of latest ones that fits
   pub longest : LongestRun (λ (x : Numbered Event). length (encode cpu x)) capacity (w .since) events
-  -- so missed is a true difference
+  -- missed is what the record says: "handed [goes up] by one, last becomes its sequence", for each event ..
+  pub last : end .last ≡ newest (w .reader .last) events
+  pub handed : end .handed ≡ w .reader .handed + length events
+  -- .. and last minus handed is a true difference
   pub counted : end .handed ≤ end .last
 
 -- the reader's record goes on from there

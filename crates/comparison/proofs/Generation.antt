@@ -1,0 +1,77 @@
+-- No emission changes the page's generation, whatever its answer, nor does the consumer.
+use Prim.Native.Nat.{ℕ, _+_}
+use native.Mathlib.Omega.{arith}
+use mathlib.Core.Path.{_≡_, refl, _∙_}
+use mathlib.Core.Logic.{inl}
+use mathlib.Core.Bool.{Bool, true, false, cond}
+use mathlib.Core.List.{List, [], _∷_}
+use lib.ListN.{length}
+use Rattle.table.specs.Table.{first}
+use Rattle.table.specs.declared.Refusal.the-variants as refusal
+use Rattle.word.specs.Number.{number}
+use Rattle.word.proofs.Reading.{number-same}
+use Rattle.word.proofs.Fields.{beside}
+use Rattle.page.specs.Page.{pageOf, pageRows, positions}
+use Rattle.page.specs.Sound.{Sound}
+use Rattle.page.specs.declared.Page.{Page}
+use Rattle.page.proofs.Sound.{sound-length}
+use Rattle.page.proofs.Wake.{notified-number}
+use Rattle.region.specs.Region.{storeAt}
+use Rattle.region.proofs.Storing.{store-number}
+use Rattle.event.specs.Walk.{walkFrom}
+use Rattle.event.specs.declared.Walk.{Walk}
+use Rattle.event.specs.declared.Walk.the-variants as walks
+use Rattle.look.specs.Live.{live}
+use Rattle.writer.specs.declared.Writer.{Writer}
+use Rattle.emit.specs.Emit.{After, refuse, writerRows, tooLarge, dropped, tooFar, disagrees, eventOf, stored, accepted, ended, placed, emittedOn, emission}
+use Rattle.emit.specs.declared.Label.{Label}
+use Rattle.reader.proofs.Kept.{answers}
+use Rattle.promise.specs.Bytes.{consumed}
+use Rattle.promise.proofs.Consumer.{consumed-elsewhere}
+
+cond-either : {A : Type 0} (P : A → Type 0) (b : Bool) (x y : A) → P x → P y → P (cond b x y)
+cond-either P true x y px py = px
+cond-either P false x y px py = py
+
+module _ (s : List ℕ) (w : Writer) where
+  abbrev Same : After → Type 0
+  Same a = number (a .ring) 32 8 ≡ number s 32 8
+
+  accepted-same : (p : Page) (event : List ℕ) (tail passed : ℕ) → Same (accepted s p w event tail passed)
+  unfolding accepted stored
+  accepted-same p event tail passed =
+      notified-number (stored s p event tail) 32 8 (inl (omega arith))
+      ∙ beside (storeAt s (p .capacity) (p .«write_pos») event) (positions (p .«write_pos» + length event) tail) 32 8 tt
+      ∙ store-number event s (p .capacity) (p .«write_pos») 32 8 (omega arith)
+
+  ended-same : (p : Page) (event : List ℕ) (end : Walk) → Same (ended s p w event end)
+  ended-same p event walks.NoRoom = refl
+  ended-same p event (walks.Damaged position) = refl
+  ended-same p event (walks.Room tail passed) =
+      cond-either Same (disagrees w passed) (refuse s w refusal.Disagree) (accepted s p w event tail passed) refl (accepted-same p event tail passed)
+
+  module _ (label : Label) (payload : List ℕ) where
+    placed-same : (p : Page) → Same (placed s p w label payload)
+    unfolding placed
+    placed-same p =
+        ended-same p (eventOf p w label payload) (walkFrom (p .«cpu_id») (p .capacity) (32 + length payload) (live s p) (p .«tail_pos») 0)
+
+    on-page-same : (p : Page) → Same (emittedOn s p w label payload)
+    unfolding emittedOn dropped
+    on-page-same p =
+        let stores : After = first ((tooFar p (32 + length payload), refusal.Far) ∷ []) (refuse s w) (placed s p w label payload) in
+        answers Same (refuse s w) (cond (tooLarge p (32 + length payload)) (dropped s w) stores) (λ r. refl)
+        (cond-either Same (tooLarge p (32 + length payload)) (dropped s w) stores refl
+        (answers Same (refuse s w) (placed s p w label payload) (λ r. refl) (placed-same p) ((tooFar p (32 + length payload), refusal.Far) ∷ [])))
+        (writerRows w)
+
+    pub emission-generation : pageOf (emission s w label payload .ring) .generation ≡ pageOf s .generation
+    unfolding emission pageOf
+    emission-generation =
+        answers Same (refuse s w) (emittedOn s (pageOf s) w label payload) (λ r. refl) (on-page-same (pageOf s)) (pageRows s)
+
+pub consumed-generation : (s page : List ℕ) → length page ≡ 4096 → Sound s (pageOf s) → pageOf (consumed s page) .generation ≡ pageOf s .generation
+unfolding pageOf
+consumed-generation s page whole h =
+    let same = consumed-elsewhere s page whole (omega (arith, sound-length s (pageOf s) h)) in
+    number-same (consumed s page) s 32 32 8 (λ i l. same .below (32 + i) (omega arith))

@@ -1,0 +1,6 @@
+pub mod Generation
+pub mod Sizes
+pub mod Read
+pub mod Following
+pub mod Ends
+pub mod Demand3

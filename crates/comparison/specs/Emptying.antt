@@ -1,0 +1,90 @@
+-- One ring with its writer and its one reader, and what emptying it is: reading until EMPTY, each read by read's own definition, with the record
+-- that the read before handed back.
+use Prim.Native.Nat.{ℕ, _+_, _≤_}
+use mathlib.Core.Path.{_≡_}
+use mathlib.Core.List.{List, [], _∷_, _++_, map}
+use lib.ListN.{length, drop}
+use Rattle.create.specs.Create.{afterCreate}
+use Rattle.reader.specs.Attach.{attached}
+use Rattle.reader.specs.Read.{Outcome, readOut}
+use Rattle.reader.specs.declared.Reader.{Reader}
+use Rattle.reader.specs.declared.Reading.the-variants as reading
+use Rattle.history.specs.Runs.{LongestRun}
+use Rattle.history.specs.Ring.{Numbered, newest}
+use Rattle.promise.specs.Bytes.{Event, encode, State, consumed, Turn, emitted, left, acceptedOf}
+use Rattle.promise.specs.Demand2.{createdState}
+
+-- the ring's bytes and the writer's record, the reader's record, and the events accepted since the last emptying: as in the second demand they are
+-- told from the answers, each under the last sequence of the record that its call handed back
+pub record Watched : Type 0 where
+  pub state : State
+  pub reader : Reader
+  pub since : List (Numbered Event)
+
+-- "with one writer and a reader attached at the start": `any` is the record that attaching was given
+abbrev pub started : ℕ → List ℕ → Reader → Watched
+started cpu buffer any = record { state = createdState cpu buffer; reader = attached (afterCreate cpu buffer) any .reader; since = [] }
+
+abbrev pub emission : Watched → Turn → Watched
+emission w t = record {
+  state = left (emitted (w .state) t);
+  reader = w .reader;
+  since = w .since ++ acceptedOf (record { turn = t; answer = emitted (w .state) t .answer } ∷ []);
+}
+
+-- what one read is lent: what the consumer wrote into bytes 4096 to 8191 before it, and an output buffer of `room` bytes or more
+pub record Lent (room : ℕ) : Type 0 where
+  pub page : List ℕ
+  pub whole : length page ≡ 4096
+  pub out : List ℕ
+  pub roomy : room ≤ length out
+
+-- all that a read leaves: its answer, its record and the output buffer
+abbrev pub left-by : {room : ℕ} → List ℕ → Reader → Lent room → Outcome
+left-by s reader lent = readOut (consumed s (lent .page)) reader (lent .out)
+
+-- the event's bytes stand at the front of the output buffer, the answer gives their number, the rest of the buffer stays
+abbrev pub Hands : ℕ → List ℕ → Reader → List ℕ → Reader → Type 0
+Hands room s reader event next =
+    (lent : Lent room) →
+    left-by s reader lent ≡ record {
+      answered = record { answer = reading.Event (length event); reader = next };
+      out = event ++ drop (length event) (lent .out);
+    }
+
+-- EMPTY: neither MOVED nor a refusal, and nothing written
+abbrev pub Ends : ℕ → List ℕ → Reader → Reader → Type 0
+Ends room s reader end =
+    (lent : Lent room) →
+    left-by s reader lent ≡ record { answered = record { answer = reading.Empty; reader = end }; out = lent .out }
+
+-- reading until EMPTY hands out these events' bytes, one event at each read, and leaves the reader's record as `end`
+abbrev pub Empties : ℕ → List ℕ → Reader → List (List ℕ) → Reader → Type 0
+Empties room s reader [] end = Ends room s reader end
+Empties room s reader (event ∷ events) end = (next : Reader) × Hands room s reader event next × Empties room s next events end
+
+-- whatever its reads are lent, an emptying can end in no other way
+abbrev pub OneEnd : Type 0
+OneEnd =
+    (room : ℕ) (s : List ℕ) (reader : Reader) (events others : List (List ℕ)) (one other : Reader) →
+    Empties room s reader events one → Empties room s reader others other →
+    (events ≡ others) × (one ≡ other)
+
+-- an emptying of the ring as it stands: a read that always answers EMPTY breaks `longest`
+pub record Emptied (cpu capacity room : ℕ) (w : Watched) : Type 0 where
+  -- what it hands out, in order
+  pub events : List (Numbered Event)
+  pub end : Reader
+  -- it ends, after as many reads as events and one that answers EMPTY
+  pub ended : Empties room (w .state .ring) (w .reader) (map (encode cpu) events) end
+  -- of the events accepted since the last emptying, the longest run of latest ones that fits
+  pub longest : LongestRun (λ (x : Numbered Event). length (encode cpu x)) capacity (w .since) events
+  -- missed is what the record says: "handed [goes up] by one, last becomes its sequence", for each event ..
+  pub last : end .last ≡ newest (w .reader .last) events
+  pub handed : end .handed ≡ w .reader .handed + length events
+  -- .. and last minus handed is a true difference
+  pub counted : end .handed ≤ end .last
+
+-- the reader's record goes on from there
+abbrev pub emptying : Watched → Reader → Watched
+emptying w end = record { state = w .state; reader = end; since = [] }

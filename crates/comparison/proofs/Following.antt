@@ -107,14 +107,19 @@ module _ (cpu capacity : ℕ) where
       pub last : endOf .last ≡ newest (b .reader .last) left
       last = ap (λ (r : Reader). newest (r .last) left) (sym (i .reader-is))
 
-      pub handed : endOf .handed ≡ b .reader .handed + length left
-      handed = omega (arith, ap (λ (r : Reader). r .handed) (i .reader-is))
-
       pub counted : endOf .handed ≤ endOf .last
       counted = following-finished size positive (w .ring) (w .reader) (a .following) .handed
 
       abbrev pub emptied : Emptied cpu capacity room b
-      emptied = record { events = left; end = endOf; ended = ended; longest = longest; last = last; handed = handed; counted = counted }
+      emptied = record {
+        events = left;
+        end = endOf;
+        ended = ended;
+        longest = longest;
+        last = last;
+        handed = omega (arith, ap (λ (r : Reader). r .handed) (i .reader-is));
+        counted = counted;
+      }
 
     pub follows-emptying : Follows (emptying b endOf) (idealEmptying size w)
     follows-emptying = record {

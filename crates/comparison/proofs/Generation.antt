@@ -25,7 +25,7 @@ use Rattle.look.specs.Live.{live}
 use Rattle.writer.specs.declared.Writer.{Writer}
 use Rattle.emit.specs.Emit.{After, refuse, writerRows, tooLarge, dropped, tooFar, disagrees, eventOf, stored, accepted, ended, placed, emittedOn, emission}
 use Rattle.emit.specs.declared.Label.{Label}
-use Rattle.reader.proofs.Kept.{answers}
+use Rattle.table.proofs.Laws.{answers}
 use Rattle.promise.specs.Bytes.{consumed}
 use Rattle.promise.proofs.Consumer.{consumed-elsewhere}
 

@@ -46,3 +46,10 @@ pub first-append : {R A : Type 0} (refuse : R → A) (otherwise : A) (rows more 
 unfolding first
 first-append refuse otherwise [] more = refl
 first-append refuse otherwise (row ∷ rows) more = ap (cond (row .0) (refuse (row .1))) (first-append refuse otherwise rows more)
+
+-- what holds of every refusal and of the last word holds of a table's answer
+pub answers : {R A : Type 0} (P : A → Type 0) (refuse : R → A) (otherwise : A) → ((r : R) → P (refuse r)) → P otherwise → (rows : List (Bool × R)) → P (first rows refuse otherwise)
+unfolding first
+answers P refuse otherwise each last [] = last
+answers P refuse otherwise each last ((true, r) ∷ rows) = each r
+answers P refuse otherwise each last ((false, r) ∷ rows) = answers P refuse otherwise each last rows

@@ -23,6 +23,10 @@ use Rattle.proved_sums.specs.Lives.{lastIn, told, Shows}
 abbrev pub numbers : List (Numbered Event) → List ℕ
 numbers kept = map (λ (x : Numbered Event). x .sequence) kept
 
+-- the writer's record of a ring without bytes
+abbrev pub recordOf : Ring Event → Writer
+recordOf ring = record { last = ring .last; dropped = ring .dropped; overwritten = ring .overwritten }
+
 oldest-number : (xs : List (Numbered Event)) → oldest xs ≡ getD (numbers xs) 0 0
 oldest-number [] = refl
 oldest-number (x ∷ xs) = refl
@@ -48,7 +52,7 @@ module _ (cpu capacity : ℕ) (s : State) (ring : Ring Event) (h : Holds cpu cap
 
   -- so a line of the table is a fact on the ring without bytes
   pub shows : {tail far : ℕ} {kept : List ℕ} {writer : Writer} → ring .tail ≡ tail → write size ring ≡ far → numbers (ring .kept) ≡ kept
-      → record { last = ring .last; dropped = ring .dropped; overwritten = ring .overwritten } ≡ writer
+      → recordOf ring ≡ writer
       → Shows s capacity tail far kept writer
   shows at to are counts = record {
     capacity-is = h .sized;

@@ -9,7 +9,7 @@ use Rattle.writer.specs.declared.Writer.{Writer}
 use Rattle.inspect.specs.Inspect.{walked, inspected}
 use Rattle.inspect.specs.declared.Summary.{Summary}
 use Rattle.inspect.specs.declared.Inspected.the-variants.{Whole}
-use Rattle.swap.specs.Swap.{exchange}
+use Rattle.swap.specs.Swap.{After, exchange}
 use Rattle.history.specs.Ring.{Answer}
 use Rattle.history.specs.Calls.{Call}
 use Rattle.promise.specs.Bytes.{Event, State, Turn, made, after, callOf}
@@ -36,28 +36,31 @@ paid n e = record {
 
 -- The sums give payload lengths alone. All else of the k-th call on a ring is `given k`: the event's label and its payload's bytes,
 -- and what the consumer wrote before the call. A buffer to be made a ring holds anything, too.
-module _ (given : ℕ → Turn) (buffer : ℕ → List ℕ) where
+module _ (given : ℕ → Turn) where
   -- the k-th call and those after it
   abbrev pub turns : ℕ → List ℕ → List Turn
   turns k [] = []
   turns k (n ∷ ns) = record { page = given k .page; whole = given k .whole; event = paid n (given k .event) } ∷ turns (suc k) ns
 
-  -- cpu 3, a fresh ring of this capacity, and then a call for each payload length
-  abbrev pub lived : ℕ → List ℕ → State
-  lived capacity lengths = after (createdState 3 (buffer capacity)) (turns 1 lengths)
+  module _ (buffer : ℕ → List ℕ) where
+    -- cpu 3, a fresh ring of this capacity, and then a call for each payload length
+    abbrev pub lived : ℕ → List ℕ → State
+    lived capacity lengths = after (createdState 3 (buffer capacity)) (turns 1 lengths)
 
-  abbrev pub answers : ℕ → List ℕ → List Answer
-  answers capacity lengths = map (λ (k : Call Event). k .answer) (map callOf (made (createdState 3 (buffer capacity)) (turns 1 lengths)))
+    abbrev pub answers : ℕ → List ℕ → List Answer
+    answers capacity lengths = map (λ (k : Call Event). k .answer) (map callOf (made (createdState 3 (buffer capacity)) (turns 1 lengths)))
 
-  -- the ring and the record after a swap to a capacity, and the old ring
+module _ (buffer : ℕ → List ℕ) where
+  -- a swap to a capacity
+  abbrev pub swap : ℕ → State → After
+  swap capacity s = exchange (s .ring) (buffer capacity) (s .writer)
+
+  -- the new ring with the record, and the old ring
   abbrev pub swapped : ℕ → State → State
-  swapped capacity s = record {
-    ring = exchange (s .ring) (buffer capacity) (s .writer) .new;
-    writer = exchange (s .ring) (buffer capacity) (s .writer) .answer .writer;
-  }
+  swapped capacity s = record { ring = swap capacity s .new; writer = swap capacity s .answer .writer }
 
-  abbrev pub left : ℕ → State → List ℕ
-  left capacity s = exchange (s .ring) (buffer capacity) (s .writer) .old
+  abbrev pub retired : ℕ → State → List ℕ
+  retired capacity s = swap capacity s .old
 
 -- ---- what is shown
 

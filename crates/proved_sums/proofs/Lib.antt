@@ -2,4 +2,6 @@ pub mod Shown
 pub mod Generation
 pub mod Lived
 pub mod Reading
+pub mod Swapped
+pub mod Stretches
 pub mod Sums

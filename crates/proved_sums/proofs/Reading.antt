@@ -5,21 +5,22 @@ use mathlib.Core.Path.{_≡_, refl, sym, ap, ap₂, _∙_, subst}
 use mathlib.Core.Bool.{true}
 use mathlib.Core.List.{List, [], _∷_, _++_, map}
 use lib.ListN.{length, take, drop}
-use lib.Seq.{drop-at}
+use lib.Seq.{take-at, drop-at}
 use Rattle.page.specs.Page.{pageOf}
 use Rattle.page.specs.declared.Page.{Page}
+use Rattle.region.specs.Region.{bytesAt}
 use Rattle.event.specs.Event.{eventSize, sequence, wellFormed}
 use Rattle.event.specs.Run.{joined, One, Each}
 use Rattle.event.proofs.Wholes.{each-parts}
 use Rattle.event.proofs.Front.{size-front, sequence-front, well-front, take-front, joined-append}
 use Rattle.look.specs.Live.{rest, live}
-use Rattle.look.proofs.Laws.{rest-drop}
+use Rattle.look.proofs.Laws.{rest-drop, rest-take}
 use Rattle.writer.specs.declared.Writer.{Writer}
-use Rattle.reader.specs.Reader.{Right}
-use Rattle.reader.specs.Read.{Outcome, place, nothing, handedOut, readOut}
+use Rattle.reader.specs.Reader.{Right, movedTo}
+use Rattle.reader.specs.Read.{Outcome, place, handedOut, readOut}
 use Rattle.reader.specs.declared.Reader.{Reader}
 use Rattle.reader.specs.declared.Reading.the-variants as reading
-use Rattle.reader.proofs.Cases.{read-event}
+use Rattle.reader.proofs.Cases.{stays, read-empty, read-event}
 use Rattle.history.specs.Runs.{total}
 use Rattle.history.specs.Ring.{Numbered, Ring, bytes, write}
 use Rattle.history.proofs.Runs.{total-append}
@@ -31,6 +32,15 @@ use Rattle.promise.proofs.Holds.{holds-range, holds-whole}
 module _ (cpu capacity : ℕ) (s : List ℕ) (w : Writer) (ring : Ring Event) (h : Holds cpu capacity s w ring) where
   abbrev p : Page
   p = pageOf s
+
+  -- a reader at the end
+  pub reads-empty : (reader : Reader) (out : List ℕ) → reader .«read_pos» ≡ write size ring → reader .handed ≤ reader .last → p .generation ≡ reader .generation
+      → readOut s reader out ≡ record { answered = record { answer = reading.Empty; reader = reader }; out = out }
+  reads-empty reader out end counted same =
+      let there : reader .«read_pos» ≡ p .«write_pos» = end ∙ sym (h .write-is) in
+      let stands : place p reader ≡ reader .«read_pos» = stays s p reader (h .sound) there in
+      read-empty s reader out p (h .sound) (record { counted = counted; behind = omega (arith, there) }) (stands ∙ there) same
+      ∙ ap (λ (k : ℕ). record { answered = record { answer = reading.Empty; reader = movedTo k reader }; out = out }) stands
 
   module _ (front : List (Numbered Event)) (x : Numbered Event) (more : List (Numbered Event)) (cut : ring .kept ≡ front ++ (x ∷ more)) where
     -- where the event begins
@@ -51,6 +61,14 @@ module _ (cpu capacity : ℕ) (s : List ℕ) (w : Writer) (ring : Ring Event) (h
         ∙ ap (λ (l : List (List ℕ)). drop (total (bytes size) front) (joined l)) (map-append (encode cpu) front (x ∷ more))
         ∙ ap (drop (total (bytes size) front)) (joined-append (map (encode cpu) front) (map (encode cpu) (x ∷ more)))
         ∙ drop-at (joined (map (encode cpu) front)) (joined (map (encode cpu) (x ∷ more))) (total (bytes size) front) (joined-length cpu front)
+
+    -- so they stand there
+    pub event-at : bytesAt s capacity at (size (x .event)) ≡ encode cpu x
+    event-at =
+        ap (λ (c : ℕ). bytesAt s c at (size (x .event))) (sym (h .sized))
+        ∙ sym (rest-take s p at (size (x .event)) (omega (arith, h .write-is, sizes)))
+        ∙ ap (take (size (x .event))) rest-is
+        ∙ take-at (encode cpu x) (joined (map (encode cpu) more)) (size (x .event)) (encode-length cpu x)
 
     whole : One cpu (encode cpu x)
     whole =

@@ -58,12 +58,12 @@ pub record Reads (ring : List ℕ) (reader : Reader) (out six seven : List ℕ) 
 
 -- ---- the table
 
-module _ (given : ℕ → Turn) (buffer : ℕ → List ℕ) where
+module _ (given : ℕ → Turn) where
   -- the bytes of the event that was given this sequence, with a payload of 96 bytes
   abbrev pub bytesOf : ℕ → List ℕ
   bytesOf n = encode 3 (record { sequence = n; event = paid 96 (given n .event) })
 
-  pub record Sums : Type 0 where
+  pub record Sums (buffer : ℕ → List ℕ) : Type 0 where
     -- "Payload 32, four times: write 256, tail 0, kept 4."
     pub line1 : Shows (lived given buffer 256 one) 256 0 256 (1 ∷ 2 ∷ 3 ∷ 4 ∷ []) (counted 4 0 0)
     -- "Payload 0: tail 64, write 288, kept 2 to 5, overwritten 1."

@@ -1,3 +1,4 @@
+pub mod Cut
 pub mod Shown
 pub mod Generation
 pub mod Lived

@@ -52,7 +52,7 @@ module _ (turn : ℕ → Turn) (buffer : ℕ → List ℕ) (sized : (capacity : 
     pub lived-shows : (lengths : List ℕ) {tail far : ℕ} {kept : List ℕ} {writer : Writer} → reached capacity lengths .tail ≡ tail
         → write size (reached capacity lengths) ≡ far → numbers (reached capacity lengths .kept) ≡ kept → recordOf (reached capacity lengths) ≡ writer
         → Shows (lived turn buffer capacity lengths) capacity tail far kept writer
-    lived-shows lengths = shows 3 capacity (lived turn buffer capacity lengths) (reached capacity lengths) (lived-holds lengths)
+    lived-shows lengths = shows capacity (lived turn buffer capacity lengths) (reached capacity lengths) (lived-holds lengths)
 
     pub lived-answers : (lengths : List ℕ)
         → answers turn buffer capacity lengths ≡ map (λ (k : Call Event). k .answer) (calls given (emit size capacity) fresh (events lengths))

@@ -50,19 +50,21 @@ module _ (cpu capacity : ℕ) (s : State) (ring : Ring Event) (h : Holds cpu cap
       walked-all (s .ring) (pageOf (s .ring)) (h .sound .order) (map (encode cpu) (ring .kept)) (h .bytes-are)
       (subst (λ (n : ℕ). Whole n 0 (map (encode cpu) (ring .kept))) (sym (h .named)) (holds-whole cpu capacity (s .ring) (s .writer) ring h .0))
 
-  -- so a line of the table is a fact on the ring without bytes
+-- so a line of the table is a fact on the ring without bytes
+module _ (capacity : ℕ) (s : State) (ring : Ring Event) (h : Holds 3 capacity (s .ring) (s .writer) ring) where
   pub shows : {tail far : ℕ} {kept : List ℕ} {writer : Writer} → ring .tail ≡ tail → write size ring ≡ far → numbers (ring .kept) ≡ kept
       → recordOf ring ≡ writer
       → Shows s capacity tail far kept writer
   shows at to are counts = record {
+    cpu-is = h .named;
     capacity-is = h .sized;
     tail-is = h .tail-is ∙ at;
     write-is = h .write-is ∙ to;
-    inspection = holds-inspected cpu capacity (s .ring) (s .writer) ring h
+    inspection = holds-inspected 3 capacity (s .ring) (s .writer) ring h
         ∙ (λ i. answers.Whole (record { count = sym (length-map (ring .kept) (λ (x : Numbered Event). x .sequence)) i; first = oldest-number (ring .kept) i; last = newest-number 0 (ring .kept) i }))
         ∙ ap (λ (l : List ℕ). answers.Whole (told l)) are;
-    kept-are = ap (map sequence) walked-kept
-        ∙ sequences cpu (h .narrow) 0 (ring .kept) (omega (arith, h .holding .fits, holds-range cpu capacity (s .ring) (s .writer) ring h)) (h .holding .rising)
+    kept-are = ap (map sequence) (walked-kept 3 capacity s ring h)
+        ∙ sequences 3 (h .narrow) 0 (ring .kept) (omega (arith, h .holding .fits, holds-range 3 capacity (s .ring) (s .writer) ring h)) (h .holding .rising)
         (omega (arith, h .holding .known, h .holding .spendable))
         ∙ are;
     writer-is = (λ i. record { last = h .last-is i; dropped = h .dropped-is i; overwritten = h .overwritten-is i }) ∙ counts;

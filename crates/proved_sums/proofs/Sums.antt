@@ -13,7 +13,7 @@ use Rattle.reader.specs.Reader.{missed}
 use Rattle.reader.specs.Attach.{attached}
 use Rattle.reader.specs.Read.{Outcome, readOut}
 use Rattle.reader.specs.declared.Reader.{Reader}
-use Rattle.reader.specs.declared.Attached.{Attached}
+use Rattle.reader.specs.declared.Attachment.the-variants.{Done}
 use Rattle.reader.specs.declared.Reading.the-variants as reading
 use Rattle.reader.proofs.Attaching.{attach-done}
 use Rattle.writer.specs.declared.Writer.{Writer}
@@ -22,7 +22,6 @@ use Rattle.history.specs.Ring.{Numbered, Ring, write, emit, swap}
 use Rattle.history.specs.Calls.{calls, after}
 use Rattle.promise.specs.Bytes.{Event, size, encode, Turn}
 use Rattle.promise.specs.Holds.{Holds}
-use Rattle.promise.specs.Demand2.{zeros}
 use Rattle.promise.proofs.Encoding.{encode-length}
 use Rattle.proved_sums.specs.Lives.{cut, paid, lived, swapped, retired, Shows}
 use Rattle.proved_sums.specs.Sums.{one, two, three, four, five, ten, standing, answering, Reads, bytesOf, Sums, AllSums}
@@ -50,21 +49,18 @@ module _ (given : ℕ → Turn) (buffer : ℕ → List ℕ) (sized : (capacity :
 
   -- ---- line 6
 
-  attached-first : (old : Reader) → attached (afterCreate 3 (buffer 256)) old .reader ≡ standing 0 0 0
+  attaches : (old : Reader) → attached (afterCreate 3 (buffer 256)) old ≡ record { answer = Done; reader = standing 0 0 0 }
   unfolding allowed powerAmong
-  attached-first old =
+  attaches old =
       let s : List ℕ = afterCreate 3 (buffer 256) in
       let h = begins given buffer sized 256 refl in
-      ap (λ (a : Attached). a .reader) (attach-done s old (pageOf s) (h .sound))
-      ∙ (λ i. standing-at (h .tail-is i) (first-generation given buffer sized 256 refl i))
-    where
-      standing-at : ℕ → ℕ → Reader
-      standing-at tail generation = record { «read_pos» = tail; last = 0; handed = 0; generation = generation }
+      let generation = first-generation given buffer sized 256 refl in
+      attach-done s old (pageOf s) (h .sound)
+      ∙ (λ i. record { answer = Done; reader = record { «read_pos» = h .tail-is i; last = 0; handed = 0; generation = generation i } })
 
-  reads : (old : Reader) (out : List ℕ) → 128 ≤ length out
-      → Reads (lived given buffer 256 five .ring) (attached (afterCreate 3 (buffer 256)) old .reader) out (bytesOf given 6) (bytesOf given 7)
+  reads : (out : List ℕ) → 128 ≤ length out → Reads (lived given buffer 256 five .ring) out (bytesOf given 6) (bytesOf given 7)
   unfolding allowed powerAmong emit latest older after cut
-  reads old out long =
+  reads out long =
       let s : List ℕ = lived given buffer 256 five .ring in
       let w : Writer = lived given buffer 256 five .writer in
       let ring : Ring Event = reached given buffer sized 256 five in
@@ -72,19 +68,17 @@ module _ (given : ℕ → Turn) (buffer : ℕ → List ℕ) (sized : (capacity :
       let tail : pageOf s .«tail_pos» ≡ 288 = h .tail-is in
       let six : length (bytesOf given 6) ≡ 128 = encode-length 3 (event 6) in
       let next : List ℕ = bytesOf given 6 ++ drop 128 out in
-      let one : readOut s (standing 0 0 0) out ≡ answering (reading.Event 128) (standing 416 6 1) next =
+      let first : readOut s (standing 0 0 0) out ≡ answering (reading.Event 128) (standing 416 6 1) next =
       reads-event 3 256 s w ring h [] (event 6) (event 7 ∷ []) refl (omega arith) (standing 0 0 0) out (omega arith) (omega arith) (omega arith) (omega arith) long in
-      let two : readOut s (standing 416 6 1) next ≡ answering (reading.Event 128) (standing 544 7 2) (bytesOf given 7 ++ drop 128 out) =
+      let second : readOut s (standing 416 6 1) next ≡ answering (reading.Event 128) (standing 544 7 2) (bytesOf given 7 ++ drop 128 out) =
       reads-event 3 256 s w ring h (event 6 ∷ []) (event 7) [] refl (omega arith) (standing 416 6 1) next (omega arith) (omega arith) (omega arith) (omega arith)
       (omega (arith, length-append (bytesOf given 6) (drop 128 out), six))
       ∙ ap (λ (l : List ℕ). answering (reading.Event 128) (standing 544 7 2) (bytesOf given 7 ++ l)) (drop-at (bytesOf given 6) (drop 128 out) 128 six) in
-      let first : readOut s (attached (afterCreate 3 (buffer 256)) old .reader) out ≡ answering (reading.Event 128) (standing 416 6 1) next =
-      ap (λ (r : Reader). readOut s r out) (attached-first old) ∙ one in
       record {
         first = first;
-        first-missed = ap (λ (o : Outcome). missed (o .answered .reader)) first;
-        second = two;
-        second-missed = ap (λ (o : Outcome). missed (o .answered .reader)) two;
+        first-missed = ap (λ (o : Outcome). missed (o .answered .reader)) first ∙ refl;
+        second = second;
+        second-missed = ap (λ (o : Outcome). missed (o .answered .reader)) second ∙ refl;
         third = reads-empty 3 256 s w ring h (standing 544 7 2) (bytesOf given 7 ++ drop 128 out) refl (omega arith)
             (lived-generation given buffer sized 256 refl five);
       }
@@ -102,7 +96,7 @@ module _ (given : ℕ → Turn) (buffer : ℕ → List ℕ) (sized : (capacity :
         → numbers (swap size capacity ring .kept) ≡ kept → recordOf (swap size capacity ring) ≡ writer
         → Shows (swapped buffer capacity (lived given buffer before lengths)) capacity tail far kept writer
     swap-shows =
-        shows 3 capacity (swapped buffer capacity (lived given buffer before lengths)) (swap size capacity ring)
+        shows capacity (swapped buffer capacity (lived given buffer before lengths)) (swap size capacity ring)
         (swapped-holds 3 before capacity (lived given buffer before lengths) ring (lived-holds given buffer sized before old lengths)
         (buffer capacity) (sized capacity) fit (omega (arith, generation)))
 
@@ -123,7 +117,7 @@ sums given buffer sized = record {
   line3 = lived-shows given buffer sized 256 refl three refl refl refl refl;
   line4 = (lived-shows given buffer sized 256 refl four refl refl refl refl, wraps given buffer sized .0, wraps given buffer sized .1);
   line5 = (lived-answers given buffer sized 256 refl five ∙ refl, lived-shows given buffer sized 256 refl five refl refl refl refl);
-  line6 = reads given buffer sized;
+  line6 = (attaches given buffer sized, reads given buffer sized);
   line7 = (
     swap-shows given buffer sized 256 512 refl refl five refl refl refl refl,
     second-generation given buffer sized 256 512 refl refl five .0,

@@ -72,8 +72,9 @@ lastIn last (k ∷ ks) = lastIn k ks
 abbrev pub told : List ℕ → Summary
 told sequences = record { count = length sequences; first = getD sequences 0 0; last = lastIn 0 sequences }
 
--- by the ring's bytes and the writer's record
+-- by the ring's bytes and the writer's record; cpu 3 in all sums
 pub record Shows (s : State) (capacity tail write : ℕ) (kept : List ℕ) (writer : Writer) : Type 0 where
+  pub cpu-is : pageOf (s .ring) .«cpu_id» ≡ 3
   pub capacity-is : pageOf (s .ring) .capacity ≡ capacity
   pub tail-is : pageOf (s .ring) .«tail_pos» ≡ tail
   pub write-is : pageOf (s .ring) .«write_pos» ≡ write

@@ -10,6 +10,7 @@ use Rattle.reader.specs.Reader.{missed}
 use Rattle.reader.specs.Attach.{attached}
 use Rattle.reader.specs.Read.{Outcome, readOut}
 use Rattle.reader.specs.declared.Reader.{Reader}
+use Rattle.reader.specs.declared.Attachment.the-variants as attachment
 use Rattle.reader.specs.declared.Reading.{Reading}
 use Rattle.reader.specs.declared.Reading.the-variants.{Event, Empty}
 use Rattle.history.specs.Ring.{Done, Dropped}
@@ -49,9 +50,9 @@ abbrev pub answering : Reading → Reader → List ℕ → Outcome
 answering answer reader out = record { answered = record { answer = answer; reader = reader }; out = out }
 
 -- three reads one after the other, each with the record and the output buffer that the one before left: the answer, the record and every byte
-pub record Reads (ring : List ℕ) (reader : Reader) (out six seven : List ℕ) : Type 0 where
-  pub first : readOut ring reader out ≡ answering (Event 128) (standing 416 6 1) (six ++ drop 128 out)
-  pub first-missed : missed (readOut ring reader out .answered .reader) ≡ 5
+pub record Reads (ring out six seven : List ℕ) : Type 0 where
+  pub first : readOut ring (standing 0 0 0) out ≡ answering (Event 128) (standing 416 6 1) (six ++ drop 128 out)
+  pub first-missed : missed (readOut ring (standing 0 0 0) out .answered .reader) ≡ 5
   pub second : readOut ring (standing 416 6 1) (six ++ drop 128 out) ≡ answering (Event 128) (standing 544 7 2) (seven ++ drop 128 out)
   pub second-missed : missed (readOut ring (standing 416 6 1) (six ++ drop 128 out) .answered .reader) ≡ 5
   pub third : readOut ring (standing 544 7 2) (seven ++ drop 128 out) ≡ answering Empty (standing 544 7 2) (seven ++ drop 128 out)
@@ -78,8 +79,8 @@ module _ (given : ℕ → Turn) where
     pub line5 : (answers given buffer 256 five ≡ Done ∷ Done ∷ Done ∷ Done ∷ Done ∷ Done ∷ Done ∷ Dropped ∷ [])
         × Shows (lived given buffer 256 five) 256 288 544 (6 ∷ 7 ∷ []) (counted (2 + 1 + 5) 1 5)
     -- "A reader attached before line 1 now gets 6 (missed 5), 7 (missed 5), EMPTY."
-    pub line6 : (record-given : Reader) (out : List ℕ) → 128 ≤ length out
-        → Reads (lived given buffer 256 five .ring) (attached (afterCreate 3 (buffer 256)) record-given .reader) out (bytesOf 6) (bytesOf 7)
+    pub line6 : ((old : Reader) → attached (afterCreate 3 (buffer 256)) old ≡ record { answer = attachment.Done; reader = standing 0 0 0 })
+        × ((out : List ℕ) → 128 ≤ length out → Reads (lived given buffer 256 five .ring) out (bytesOf 6) (bytesOf 7))
     -- "Swapped to 512: tail 0, write 256, generation 2; the old page also shows 2."
     pub line7 : Shows (swapped buffer 512 (lived given buffer 256 five)) 512 0 256 (6 ∷ 7 ∷ []) (counted 8 1 5)
         × (pageOf (swapped buffer 512 (lived given buffer 256 five) .ring) .generation ≡ 2)

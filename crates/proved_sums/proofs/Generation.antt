@@ -1,5 +1,5 @@
 -- Emission leaves the page's generation, however it ends.
-use Prim.Native.Nat.{ℕ, _+_, _≤_, _<_}
+use Prim.Native.Nat.{ℕ, _+_}
 use native.Mathlib.Omega.{arith}
 use mathlib.Core.Path.{_≡_, refl, _∙_}
 use mathlib.Core.Logic.{inl}
@@ -23,7 +23,7 @@ use Rattle.event.specs.declared.Walk.{Walk}
 use Rattle.event.specs.declared.Walk.the-variants as walks
 use Rattle.look.specs.Live.{live}
 use Rattle.writer.specs.declared.Writer.{Writer}
-use Rattle.emit.specs.Emit.{After, refuse, writerRows, tooLarge, tooFar, dropped, disagrees, eventOf, stored, accepted, ended, placed, emittedOn, emission}
+use Rattle.emit.specs.Emit.{After, refuse, writerRows, tooLarge, dropped, disagrees, eventOf, stored, accepted, ended, placed, emittedOn, emission}
 use Rattle.emit.specs.declared.Label.{Label}
 use Rattle.history.specs.Ring.{Ring, emit}
 use Rattle.promise.specs.Bytes.{Event, size, labelOf, State, Turn, consumed, emitted, left, after}

@@ -1,9 +1,9 @@
 -- Reading bytes that hold a ring: the event at the reader's place, and the end.
 use Prim.Native.Nat.{ℕ, _+_, _^_, _≤_, _<_}
 use native.Mathlib.Omega.{arith}
-use mathlib.Core.Path.{_≡_, refl, sym, ap, ap₂, _∙_, subst}
+use mathlib.Core.Path.{_≡_, sym, ap, ap₂, _∙_, subst}
 use mathlib.Core.Bool.{true}
-use mathlib.Core.List.{List, [], _∷_, _++_, map}
+use mathlib.Core.List.{List, _∷_, _++_, map}
 use lib.ListN.{length, take, drop}
 use lib.Seq.{take-at, drop-at}
 use Rattle.page.specs.Page.{pageOf}
@@ -16,8 +16,8 @@ use Rattle.event.proofs.Front.{size-front, sequence-front, well-front, take-fro
 use Rattle.look.specs.Live.{rest, live}
 use Rattle.look.proofs.Laws.{rest-drop, rest-take}
 use Rattle.writer.specs.declared.Writer.{Writer}
-use Rattle.reader.specs.Reader.{Right, movedTo}
-use Rattle.reader.specs.Read.{Outcome, place, handedOut, readOut}
+use Rattle.reader.specs.Reader.{movedTo}
+use Rattle.reader.specs.Read.{place, handedOut, readOut}
 use Rattle.reader.specs.declared.Reader.{Reader}
 use Rattle.reader.specs.declared.Reading.the-variants as reading
 use Rattle.reader.proofs.Cases.{stays, read-empty, read-event}
@@ -90,12 +90,12 @@ module _ (cpu capacity : ℕ) (s : List ℕ) (w : Writer) (ring : Ring Event) (h
           → reader .last < x .sequence → size (x .event) ≤ length out
           → readOut s reader out
           ≡ record {
-              answered = record {
-                answer = reading.Event (size (x .event));
-                reader = record { «read_pos» = at + size (x .event); last = x .sequence; handed = reader .handed + 1; generation = reader .generation };
-              };
-              out = encode cpu x ++ drop (size (x .event)) out;
-            }
+            answered = record {
+              answer = reading.Event (size (x .event));
+              reader = record { «read_pos» = at + size (x .event); last = x .sequence; handed = reader .handed + 1; generation = reader .generation };
+            };
+            out = encode cpu x ++ drop (size (x .event)) out;
+          }
       reads-event reader out stands behind counted above long =
           let here : place p reader ≡ at = stands in
           let well : wellFormed (p .«cpu_id») (rest s p (place p reader)) ≡ true =

@@ -3,12 +3,12 @@ use Prim.Native.Nat.{ℕ, _^_, _<_}
 use native.Mathlib.Omega.{arith}
 use mathlib.Core.Path.{_≡_, refl, sym, ap, ap₂, _∙_, subst}
 use mathlib.Core.List.{List, [], _∷_, map}
-use lib.ListN.{length, getD, length-map}
+use lib.ListN.{getD, length-map}
 use Rattle.page.specs.Page.{pageOf}
 use Rattle.event.specs.Event.{sequence}
 use Rattle.event.specs.Run.{Whole}
 use Rattle.writer.specs.declared.Writer.{Writer}
-use Rattle.inspect.specs.Inspect.{walked, inspected}
+use Rattle.inspect.specs.Inspect.{walked}
 use Rattle.inspect.specs.declared.Inspected.the-variants as answers
 use Rattle.inspect.proofs.Surveys.{walked-all}
 use Rattle.history.specs.Runs.{total}

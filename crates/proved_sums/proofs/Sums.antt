@@ -1,7 +1,7 @@
 -- The table: each line is computed on the ring without bytes, and the promises carry it to the bytes.
 use Prim.Native.Nat.{ℕ, _+_, _≤_}
 use native.Mathlib.Omega.{arith}
-use mathlib.Core.Path.{_≡_, refl, sym, ap, _∙_}
+use mathlib.Core.Path.{_≡_, refl, ap, _∙_}
 use mathlib.Core.Bool.{true}
 use mathlib.Core.List.{List, [], _∷_, _++_}
 use lib.ListN.{length, take, drop, length-append}
@@ -20,11 +20,11 @@ use Rattle.writer.specs.declared.Writer.{Writer}
 use Rattle.history.specs.Runs.{latest, older}
 use Rattle.history.specs.Ring.{Numbered, Ring, write, emit, swap}
 use Rattle.history.specs.Calls.{calls, after}
-use Rattle.promise.specs.Bytes.{Event, size, encode, Turn}
+use Rattle.promise.specs.Bytes.{Event, size, Turn}
 use Rattle.promise.specs.Holds.{Holds}
 use Rattle.promise.proofs.Encoding.{encode-length}
 use Rattle.proved_sums.specs.Lives.{cut, paid, lived, swapped, retired, Shows}
-use Rattle.proved_sums.specs.Sums.{one, two, three, four, five, ten, standing, answering, Reads, bytesOf, Sums, AllSums}
+use Rattle.proved_sums.specs.Sums.{one, two, three, four, five, ten, standing, answering, Reads, bytesOf, AllSums}
 use Rattle.proved_sums.proofs.Shown.{numbers, recordOf, shows}
 use Rattle.proved_sums.proofs.Lived.{reached, begins, first-generation, lived-holds, lived-shows, lived-answers, lived-generation}
 use Rattle.proved_sums.proofs.Reading.{event-at, reads-event, reads-empty}

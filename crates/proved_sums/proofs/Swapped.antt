@@ -4,7 +4,7 @@ use native.Mathlib.Nat.{sub-zero}
 use native.Mathlib.Omega.{arith}
 use mathlib.Core.Path.{_≡_, sym, ap, ap₂, _∙_, subst}
 use mathlib.Core.Bool.{true}
-use mathlib.Core.List.{List, map, _++_}
+use mathlib.Core.List.{List, map}
 use lib.ListN.{length, drop, length-map}
 use lib.Seq.{drop-append-seam}
 use Rattle.capacity.specs.Capacity.{allowed}

@@ -6,3 +6,4 @@ pub mod Reading
 pub mod Swapped
 pub mod Stretches
 pub mod Sums
+pub mod Zeros

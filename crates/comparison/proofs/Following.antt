@@ -22,7 +22,7 @@ use Rattle.promise.proofs.Encoding.{encode-lengths}
 use Rattle.promise.proofs.Consumer.{consumed-holds}
 use Rattle.promise.proofs.Demand2.{turn-step}
 use Rattle.comparison.specs.Emptying.{Watched, emission, Empties, Emptied, emptying}
-use Rattle.comparison.proofs.Generation.{emission-generation, consumed-generation}
+use Rattle.promise.proofs.Generation.{emission-generation, consumed-generation}
 use Rattle.comparison.proofs.Sizes.{Within}
 use Rattle.comparison.proofs.Read.{recordOf, read-none, read-one}
 

@@ -1,4 +1,3 @@
-pub mod Generation
 pub mod Sizes
 pub mod Read
 pub mod Following

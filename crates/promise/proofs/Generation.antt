@@ -26,8 +26,11 @@ use Rattle.writer.specs.declared.Writer.{Writer}
 use Rattle.emit.specs.Emit.{After, refuse, writerRows, tooLarge, dropped, tooFar, disagrees, eventOf, stored, accepted, ended, placed, emittedOn, emission}
 use Rattle.emit.specs.declared.Label.{Label}
 use Rattle.table.proofs.Laws.{answers}
-use Rattle.promise.specs.Bytes.{consumed}
+use Rattle.history.specs.Ring.{Ring, emit}
+use Rattle.promise.specs.Bytes.{Event, size, labelOf, State, Turn, consumed, emitted, left, after}
+use Rattle.promise.specs.Holds.{Holds}
 use Rattle.promise.proofs.Consumer.{consumed-elsewhere}
+use Rattle.promise.proofs.Demand2.{turn-step}
 
 cond-either : {A : Type 0} (P : A → Type 0) (b : Bool) (x y : A) → P x → P y → P (cond b x y)
 cond-either P true x y px py = px
@@ -75,3 +78,13 @@ unfolding pageOf
 consumed-generation s page whole h =
     let same = consumed-elsewhere s page whole (omega (arith, sound-length s (pageOf s) h)) in
     number-same (consumed s page) s 32 32 8 (λ i l. same .below (32 + i) (omega arith))
+
+-- so it stands through a history, whatever the consumer writes
+pub generation-stays : (cpu capacity : ℕ) (turns : List Turn) (s : State) (ring : Ring Event) → Holds cpu capacity (s .ring) (s .writer) ring
+    → pageOf (after s turns .ring) .generation ≡ pageOf (s .ring) .generation
+unfolding after
+generation-stays cpu capacity [] s ring h = refl
+generation-stays cpu capacity (t ∷ ts) s ring h =
+    generation-stays cpu capacity ts (left (emitted s t)) ((emit size capacity ring (t .event)) .next) (turn-step cpu capacity s ring t h .holds)
+    ∙ emission-generation (consumed (s .ring) (t .page)) (s .writer) (labelOf (t .event)) (t .event .payload)
+    ∙ consumed-generation (s .ring) (t .page) (t .whole) (h .sound)

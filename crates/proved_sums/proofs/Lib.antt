@@ -1,0 +1,8 @@
+pub mod Cut
+pub mod Shown
+pub mod Lived
+pub mod Reading
+pub mod Swapped
+pub mod Stretches
+pub mod Sums
+pub mod Zeros

@@ -1,0 +1,65 @@
+-- The rings of the sums hold what the ring without bytes comes to.
+use Prim.Native.Nat.{ℕ, _+_, _-_}
+use native.Mathlib.Omega.{arith}
+use mathlib.Core.Path.{_≡_, ap, _∙_}
+use mathlib.Core.Bool.{true, not}
+use mathlib.Core.List.{List, map}
+use lib.ListN.{length}
+use Rattle.word.specs.Number.{number}
+use Rattle.capacity.specs.Capacity.{allowed}
+use Rattle.page.specs.Page.{pageOf}
+use Rattle.page.specs.Fresh.{blank}
+use Rattle.page.proofs.Fresh.{blank-generation}
+use Rattle.create.specs.Create.{wrongSize, afterCreate}
+use Rattle.create.proofs.Laws.{size-passed}
+use Rattle.writer.specs.declared.Writer.{Writer}
+use Rattle.history.specs.Ring.{Ring, given, fresh, write, emit}
+use Rattle.history.specs.Calls.{Call, calls}
+use Rattle.history.specs.Calls.{after as afterCalls}
+use Rattle.promise.specs.Bytes.{Event, size, Turn}
+use Rattle.promise.specs.Holds.{Holds}
+use Rattle.promise.specs.Demand2.{zeros, createdState}
+use Rattle.promise.proofs.Created.{created-holds}
+use Rattle.promise.proofs.Demand2.{same-calls}
+use Rattle.proved_sums.specs.Lives.{turns, lived, answers, Shows}
+use Rattle.proved_sums.proofs.Shown.{numbers, recordOf, shows}
+use Rattle.promise.proofs.Generation.{generation-stays}
+
+module _ (turn : ℕ → Turn) (buffer : ℕ → List ℕ) (sized : (capacity : ℕ) → length (buffer capacity) ≡ 8192 + capacity) where
+  abbrev pub events : List ℕ → List Event
+  events lengths = map (λ (t : Turn). t .event) (turns turn 1 lengths)
+
+  -- what the lengths come to without bytes
+  abbrev pub reached : ℕ → List ℕ → Ring Event
+  reached capacity lengths = afterCalls (emit size capacity) fresh (events lengths)
+
+  module _ (capacity : ℕ) (fit : allowed capacity ≡ true) where
+    pub begins : Holds 3 capacity (afterCreate 3 (buffer capacity)) zeros fresh
+    begins = created-holds 3 capacity (omega arith) fit (buffer capacity) (sized capacity)
+
+    pub first-generation : pageOf (afterCreate 3 (buffer capacity)) .generation ≡ 1
+    unfolding wrongSize pageOf
+    first-generation =
+        let rest : length (buffer capacity) - 8192 ≡ capacity = omega (arith, sized capacity) in
+        ap (λ (s : List ℕ). number s 32 8) (size-passed 3 (buffer capacity) (ap not (ap allowed rest ∙ fit)) .1)
+        ∙ ap (λ (c : ℕ). number (blank 3 c 1) 32 8) rest
+        ∙ blank-generation 3 capacity 1 (omega arith) fit (omega arith) (omega arith)
+
+    pub lived-holds : (lengths : List ℕ) → Holds 3 capacity (lived turn buffer capacity lengths .ring) (lived turn buffer capacity lengths .writer) (reached capacity lengths)
+    lived-holds lengths = same-calls 3 capacity (turns turn 1 lengths) (createdState 3 (buffer capacity)) fresh begins .1
+
+    -- a line of the table, by computing without bytes
+    pub lived-shows : (lengths : List ℕ) {tail far : ℕ} {kept : List ℕ} {writer : Writer} → reached capacity lengths .tail ≡ tail
+        → write size (reached capacity lengths) ≡ far → numbers (reached capacity lengths .kept) ≡ kept → recordOf (reached capacity lengths) ≡ writer
+        → Shows (lived turn buffer capacity lengths) capacity tail far kept writer
+    lived-shows lengths = shows capacity (lived turn buffer capacity lengths) (reached capacity lengths) (lived-holds lengths)
+
+    pub lived-answers : (lengths : List ℕ)
+        → answers turn buffer capacity lengths ≡ map (λ (k : Call Event). k .answer) (calls given (emit size capacity) fresh (events lengths))
+    lived-answers lengths =
+        ap (map (λ (k : Call Event). k .answer)) (same-calls 3 capacity (turns turn 1 lengths) (createdState 3 (buffer capacity)) fresh begins .0)
+
+    pub lived-generation : (lengths : List ℕ) → pageOf (lived turn buffer capacity lengths .ring) .generation ≡ 1
+    unfolding pageOf
+    lived-generation lengths =
+        generation-stays 3 capacity (turns turn 1 lengths) (createdState 3 (buffer capacity)) fresh begins ∙ first-generation

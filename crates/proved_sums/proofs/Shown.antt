@@ -1,0 +1,71 @@
+-- What bytes and a record that hold a ring show.
+use Prim.Native.Nat.{ℕ, _^_, _<_}
+use native.Mathlib.Omega.{arith}
+use mathlib.Core.Path.{_≡_, refl, sym, ap, ap₂, _∙_, subst}
+use mathlib.Core.List.{List, [], _∷_, map}
+use lib.ListN.{getD, length-map}
+use Rattle.page.specs.Page.{pageOf}
+use Rattle.event.specs.Event.{sequence}
+use Rattle.event.specs.Run.{Whole}
+use Rattle.writer.specs.declared.Writer.{Writer}
+use Rattle.inspect.specs.Inspect.{walked}
+use Rattle.inspect.specs.declared.Inspected.the-variants as answers
+use Rattle.inspect.proofs.Surveys.{walked-all}
+use Rattle.history.specs.Runs.{total}
+use Rattle.history.specs.Ring.{Numbered, Ring, Rising, newest, bytes, write}
+use Rattle.history.proofs.Rising.{rising-length}
+use Rattle.promise.specs.Bytes.{Event, size, encode, oldest, State}
+use Rattle.promise.specs.Holds.{Holds}
+use Rattle.promise.proofs.Encoding.{encode-sequence}
+use Rattle.promise.proofs.Holds.{holds-range, holds-whole, holds-inspected}
+use Rattle.proved_sums.specs.Lives.{lastIn, told, Shows}
+
+abbrev pub numbers : List (Numbered Event) → List ℕ
+numbers kept = map (λ (x : Numbered Event). x .sequence) kept
+
+-- the writer's record of a ring without bytes
+abbrev pub recordOf : Ring Event → Writer
+recordOf ring = record { last = ring .last; dropped = ring .dropped; overwritten = ring .overwritten }
+
+oldest-number : (xs : List (Numbered Event)) → oldest xs ≡ getD (numbers xs) 0 0
+oldest-number [] = refl
+oldest-number (x ∷ xs) = refl
+
+newest-number : (low : ℕ) (xs : List (Numbered Event)) → newest low xs ≡ lastIn low (numbers xs)
+newest-number low [] = refl
+newest-number low (x ∷ xs) = newest-number (x .sequence) xs
+
+-- the sequences stand in the bytes
+sequences : (cpu : ℕ) → cpu < 2 ^ 16 → (low : ℕ) (xs : List (Numbered Event)) → total (bytes size) xs < 2 ^ 32 → Rising low xs → newest low xs < 2 ^ 64
+    → map sequence (map (encode cpu) xs) ≡ numbers xs
+sequences cpu narrow low [] small rise known = refl
+sequences cpu narrow low (x ∷ xs) small rise known =
+    ap₂ (λ (n : ℕ) (l : List ℕ). n ∷ l)
+    (encode-sequence cpu narrow x (omega arith) (omega (arith, rising-length (x .sequence) xs (rise .1))))
+    (sequences cpu narrow (x .sequence) xs (omega arith) (rise .1) known)
+
+module _ (cpu capacity : ℕ) (s : State) (ring : Ring Event) (h : Holds cpu capacity (s .ring) (s .writer) ring) where
+  pub walked-kept : walked (s .ring) (pageOf (s .ring)) ≡ map (encode cpu) (ring .kept)
+  walked-kept =
+      walked-all (s .ring) (pageOf (s .ring)) (h .sound .order) (map (encode cpu) (ring .kept)) (h .bytes-are)
+      (subst (λ (n : ℕ). Whole n 0 (map (encode cpu) (ring .kept))) (sym (h .named)) (holds-whole cpu capacity (s .ring) (s .writer) ring h .0))
+
+-- so a line of the table is a fact on the ring without bytes
+module _ (capacity : ℕ) (s : State) (ring : Ring Event) (h : Holds 3 capacity (s .ring) (s .writer) ring) where
+  pub shows : {tail far : ℕ} {kept : List ℕ} {writer : Writer} → ring .tail ≡ tail → write size ring ≡ far → numbers (ring .kept) ≡ kept
+      → recordOf ring ≡ writer
+      → Shows s capacity tail far kept writer
+  shows at to are counts = record {
+    cpu-is = h .named;
+    capacity-is = h .sized;
+    tail-is = h .tail-is ∙ at;
+    write-is = h .write-is ∙ to;
+    inspection = holds-inspected 3 capacity (s .ring) (s .writer) ring h
+        ∙ (λ i. answers.Whole (record { count = sym (length-map (ring .kept) (λ (x : Numbered Event). x .sequence)) i; first = oldest-number (ring .kept) i; last = newest-number 0 (ring .kept) i }))
+        ∙ ap (λ (l : List ℕ). answers.Whole (told l)) are;
+    kept-are = ap (map sequence) (walked-kept 3 capacity s ring h)
+        ∙ sequences 3 (h .narrow) 0 (ring .kept) (omega (arith, h .holding .fits, holds-range 3 capacity (s .ring) (s .writer) ring h)) (h .holding .rising)
+        (omega (arith, h .holding .known, h .holding .spendable))
+        ∙ are;
+    writer-is = (λ i. record { last = h .last-is i; dropped = h .dropped-is i; overwritten = h .overwritten-is i }) ∙ counts;
+  }

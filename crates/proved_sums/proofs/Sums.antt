@@ -1,0 +1,129 @@
+-- The table: each line is computed on the ring without bytes, and the promises carry it to the bytes.
+use Prim.Native.Nat.{ℕ, _+_, _≤_}
+use native.Mathlib.Omega.{arith}
+use mathlib.Core.Path.{_≡_, refl, ap, _∙_}
+use mathlib.Core.Bool.{true}
+use mathlib.Core.List.{List, [], _∷_, _++_}
+use lib.ListN.{length, take, drop, length-append}
+use lib.Seq.{drop-at}
+use Rattle.capacity.specs.Capacity.{allowed, powerAmong}
+use Rattle.page.specs.Page.{pageOf}
+use Rattle.create.specs.Create.{afterCreate}
+use Rattle.reader.specs.Reader.{missed}
+use Rattle.reader.specs.Attach.{attached}
+use Rattle.reader.specs.Read.{Outcome, readOut}
+use Rattle.reader.specs.declared.Reader.{Reader}
+use Rattle.reader.specs.declared.Attachment.the-variants.{Done}
+use Rattle.reader.specs.declared.Reading.the-variants as reading
+use Rattle.reader.proofs.Attaching.{attach-done}
+use Rattle.writer.specs.declared.Writer.{Writer}
+use Rattle.history.specs.Runs.{latest, older}
+use Rattle.history.specs.Ring.{Numbered, Ring, write, emit, swap}
+use Rattle.history.specs.Calls.{calls, after}
+use Rattle.promise.specs.Bytes.{Event, size, Turn}
+use Rattle.promise.specs.Holds.{Holds}
+use Rattle.promise.proofs.Encoding.{encode-length}
+use Rattle.proved_sums.specs.Lives.{cut, paid, lived, swapped, retired, Shows}
+use Rattle.proved_sums.specs.Sums.{one, two, three, four, five, ten, standing, answering, Reads, bytesOf, AllSums}
+use Rattle.proved_sums.proofs.Shown.{numbers, recordOf, shows}
+use Rattle.proved_sums.proofs.Lived.{reached, begins, first-generation, lived-holds, lived-shows, lived-answers, lived-generation}
+use Rattle.proved_sums.proofs.Reading.{event-at, reads-event, reads-empty}
+use Rattle.proved_sums.proofs.Swapped.{swapped-holds, new-generation, old-generation}
+use Rattle.proved_sums.proofs.Stretches.{stretches}
+
+module _ (given : ℕ → Turn) (buffer : ℕ → List ℕ) (sized : (capacity : ℕ) → length (buffer capacity) ≡ 8192 + capacity) where
+  -- ---- line 4: where event 7 lies
+
+  abbrev event : ℕ → Numbered Event
+  event n = record { sequence = n; event = paid 96 (given n .event) }
+
+  wraps : (take 96 (drop (8192 + 160) (lived given buffer 256 four .ring)) ≡ take 96 (bytesOf given 7))
+      × (take 32 (drop 8192 (lived given buffer 256 four .ring)) ≡ drop 96 (bytesOf given 7))
+  unfolding allowed powerAmong emit latest older after cut
+  wraps =
+      let s : List ℕ = lived given buffer 256 four .ring in
+      let h = lived-holds given buffer sized 256 refl four in
+      let long : length s ≡ 8192 + 256 = h .sound .long ∙ ap (λ (c : ℕ). 8192 + c) (h .sized) in
+      stretches s 256 long (omega arith) 416 96 32 (bytesOf given 7)
+      (event-at 3 256 s (lived given buffer 256 four .writer) (reached given buffer sized 256 four) h (event 6 ∷ []) (event 7) [] refl) (omega arith) (omega arith)
+
+  -- ---- line 6
+
+  attaches : (old : Reader) → attached (afterCreate 3 (buffer 256)) old ≡ record { answer = Done; reader = standing 0 0 0 }
+  unfolding allowed powerAmong
+  attaches old =
+      let s : List ℕ = afterCreate 3 (buffer 256) in
+      let h = begins given buffer sized 256 refl in
+      let generation = first-generation given buffer sized 256 refl in
+      attach-done s old (pageOf s) (h .sound)
+      ∙ (λ i. record { answer = Done; reader = record { «read_pos» = h .tail-is i; last = 0; handed = 0; generation = generation i } })
+
+  reads : (out : List ℕ) → 128 ≤ length out → Reads (lived given buffer 256 five .ring) out (bytesOf given 6) (bytesOf given 7)
+  unfolding allowed powerAmong emit latest older after cut
+  reads out long =
+      let s : List ℕ = lived given buffer 256 five .ring in
+      let w : Writer = lived given buffer 256 five .writer in
+      let ring : Ring Event = reached given buffer sized 256 five in
+      let h : Holds 3 256 s w ring = lived-holds given buffer sized 256 refl five in
+      let tail : pageOf s .«tail_pos» ≡ 288 = h .tail-is in
+      let six : length (bytesOf given 6) ≡ 128 = encode-length 3 (event 6) in
+      let next : List ℕ = bytesOf given 6 ++ drop 128 out in
+      let first : readOut s (standing 0 0 0) out ≡ answering (reading.Event 128) (standing 416 6 1) next =
+      reads-event 3 256 s w ring h [] (event 6) (event 7 ∷ []) refl (omega arith) (standing 0 0 0) out (omega arith) (omega arith) (omega arith) (omega arith) long in
+      let second : readOut s (standing 416 6 1) next ≡ answering (reading.Event 128) (standing 544 7 2) (bytesOf given 7 ++ drop 128 out) =
+      reads-event 3 256 s w ring h (event 6 ∷ []) (event 7) [] refl (omega arith) (standing 416 6 1) next (omega arith) (omega arith) (omega arith) (omega arith)
+      (omega (arith, length-append (bytesOf given 6) (drop 128 out), six))
+      ∙ ap (λ (l : List ℕ). answering (reading.Event 128) (standing 544 7 2) (bytesOf given 7 ++ l)) (drop-at (bytesOf given 6) (drop 128 out) 128 six) in
+      record {
+        first = first;
+        first-missed = ap (λ (o : Outcome). missed (o .answered .reader)) first ∙ refl;
+        second = second;
+        second-missed = ap (λ (o : Outcome). missed (o .answered .reader)) second ∙ refl;
+        third = reads-empty 3 256 s w ring h (standing 544 7 2) (bytesOf given 7 ++ drop 128 out) refl (omega arith)
+            (lived-generation given buffer sized 256 refl five);
+      }
+
+  -- ---- lines 7 to 9
+
+  module _ (before capacity : ℕ) (old : allowed before ≡ true) (fit : allowed capacity ≡ true) (lengths : List ℕ) where
+    abbrev ring : Ring Event
+    ring = reached given buffer sized before lengths
+
+    generation : pageOf (lived given buffer before lengths .ring) .generation ≡ 1
+    generation = lived-generation given buffer sized before old lengths
+
+    swap-shows : {tail far : ℕ} {kept : List ℕ} {writer : Writer} → swap size capacity ring .tail ≡ tail → write size (swap size capacity ring) ≡ far
+        → numbers (swap size capacity ring .kept) ≡ kept → recordOf (swap size capacity ring) ≡ writer
+        → Shows (swapped buffer capacity (lived given buffer before lengths)) capacity tail far kept writer
+    swap-shows =
+        shows capacity (swapped buffer capacity (lived given buffer before lengths)) (swap size capacity ring)
+        (swapped-holds 3 before capacity (lived given buffer before lengths) ring (lived-holds given buffer sized before old lengths)
+        (buffer capacity) (sized capacity) fit (omega (arith, generation)))
+
+    second-generation : (pageOf (swapped buffer capacity (lived given buffer before lengths) .ring) .generation ≡ 2)
+        × (pageOf (retired buffer capacity (lived given buffer before lengths)) .generation ≡ 2)
+    second-generation =
+        let h = lived-holds given buffer sized before old lengths in
+        let s = lived given buffer before lengths in (
+          omega (arith, generation, new-generation 3 before capacity s ring h (buffer capacity) (sized capacity) fit (omega (arith, generation))),
+          omega (arith, generation, old-generation 3 before capacity s ring h (buffer capacity) (sized capacity) fit (omega (arith, generation))),
+        )
+
+pub sums : AllSums
+unfolding allowed powerAmong emit latest older after calls cut
+sums given buffer sized = record {
+  line1 = lived-shows given buffer sized 256 refl one refl refl refl refl;
+  line2 = lived-shows given buffer sized 256 refl two refl refl refl refl;
+  line3 = lived-shows given buffer sized 256 refl three refl refl refl refl;
+  line4 = (lived-shows given buffer sized 256 refl four refl refl refl refl, wraps given buffer sized .0, wraps given buffer sized .1);
+  line5 = (lived-answers given buffer sized 256 refl five ∙ refl, lived-shows given buffer sized 256 refl five refl refl refl refl);
+  line6 = (attaches given buffer sized, reads given buffer sized);
+  line7 = (
+    swap-shows given buffer sized 256 512 refl refl five refl refl refl refl,
+    second-generation given buffer sized 256 512 refl refl five .0,
+    second-generation given buffer sized 256 512 refl refl five .1,
+  );
+  line8 = swap-shows given buffer sized 512 256 refl refl (0 ∷ 224 ∷ []) refl refl refl refl;
+  line9 = swap-shows given buffer sized 1024 256 refl refl (480 ∷ []) refl refl refl refl;
+  line10 = (lived-shows given buffer sized 256 refl ten refl refl refl refl, lived-shows given buffer sized 512 refl ten refl refl refl refl);
+}

@@ -1,0 +1,98 @@
+-- "Sums done by hand" (document 01), lines 1 to 10: one table, over the operations' definitions on bytes.
+use Prim.Native.Nat.{ℕ, _+_, _≤_}
+use mathlib.Core.Path.{_≡_}
+use mathlib.Core.List.{List, [], _∷_, _++_}
+use lib.ListN.{length, take, drop}
+use Rattle.page.specs.Page.{pageOf}
+use Rattle.writer.specs.declared.Writer.{Writer}
+use Rattle.create.specs.Create.{afterCreate}
+use Rattle.reader.specs.Reader.{missed}
+use Rattle.reader.specs.Attach.{attached}
+use Rattle.reader.specs.Read.{Outcome, readOut}
+use Rattle.reader.specs.declared.Reader.{Reader}
+use Rattle.reader.specs.declared.Attachment.the-variants as attachment
+use Rattle.reader.specs.declared.Reading.{Reading}
+use Rattle.reader.specs.declared.Reading.the-variants.{Event, Empty}
+use Rattle.history.specs.Ring.{Done, Dropped}
+use Rattle.promise.specs.Bytes.{encode, Turn}
+use Rattle.proved_sums.specs.Lives.{paid, lived, answers, swapped, retired, Shows}
+
+-- ---- "the state goes on from line to line": the payload lengths up to each line
+
+abbrev pub one : List ℕ
+one = 32 ∷ 32 ∷ 32 ∷ 32 ∷ []
+
+abbrev pub two : List ℕ
+two = one ++ (0 ∷ [])
+
+abbrev pub three : List ℕ
+three = two ++ (96 ∷ [])
+
+abbrev pub four : List ℕ
+four = three ++ (96 ∷ [])
+
+abbrev pub five : List ℕ
+five = four ++ (97 ∷ [])
+
+-- line 10's sizes 32, 32, 256, 256 less 32 bytes of header
+abbrev pub ten : List ℕ
+ten = 0 ∷ 0 ∷ 224 ∷ 224 ∷ []
+
+abbrev pub counted : ℕ → ℕ → ℕ → Writer
+counted last dropped overwritten = record { last = last; dropped = dropped; overwritten = overwritten }
+
+-- ---- line 6
+
+abbrev pub standing : ℕ → ℕ → ℕ → Reader
+standing place last handed = record { «read_pos» = place; last = last; handed = handed; generation = 1 }
+
+abbrev pub answering : Reading → Reader → List ℕ → Outcome
+answering answer reader out = record { answered = record { answer = answer; reader = reader }; out = out }
+
+-- three reads one after the other, each with the record and the output buffer that the one before left: the answer, the record and every byte
+pub record Reads (ring out six seven : List ℕ) : Type 0 where
+  pub first : readOut ring (standing 0 0 0) out ≡ answering (Event 128) (standing 416 6 1) (six ++ drop 128 out)
+  pub first-missed : missed (readOut ring (standing 0 0 0) out .answered .reader) ≡ 5
+  pub second : readOut ring (standing 416 6 1) (six ++ drop 128 out) ≡ answering (Event 128) (standing 544 7 2) (seven ++ drop 128 out)
+  pub second-missed : missed (readOut ring (standing 416 6 1) (six ++ drop 128 out) .answered .reader) ≡ 5
+  pub third : readOut ring (standing 544 7 2) (seven ++ drop 128 out) ≡ answering Empty (standing 544 7 2) (seven ++ drop 128 out)
+
+-- ---- the table
+
+module _ (given : ℕ → Turn) where
+  -- the bytes of the event that was given this sequence, with a payload of 96 bytes
+  abbrev pub bytesOf : ℕ → List ℕ
+  bytesOf n = encode 3 (record { sequence = n; event = paid 96 (given n .event) })
+
+  pub record Sums (buffer : ℕ → List ℕ) : Type 0 where
+    -- "Payload 32, four times: write 256, tail 0, kept 4."
+    pub line1 : Shows (lived given buffer 256 one) 256 0 256 (1 ∷ 2 ∷ 3 ∷ 4 ∷ []) (counted 4 0 0)
+    -- "Payload 0: tail 64, write 288, kept 2 to 5, overwritten 1."
+    pub line2 : Shows (lived given buffer 256 two) 256 64 288 (2 ∷ 3 ∷ 4 ∷ 5 ∷ []) (counted 5 0 1)
+    -- "Payload 96: tail 192, write 416, kept 4 to 6, overwritten 3."
+    pub line3 : Shows (lived given buffer 256 three) 256 192 416 (4 ∷ 5 ∷ 6 ∷ []) (counted 6 0 3)
+    -- "Payload 96: tail 288, write 544, kept 6 and 7, overwritten 5; 96 bytes at data offset 160, 32 at 0."
+    pub line4 : Shows (lived given buffer 256 four) 256 288 544 (6 ∷ 7 ∷ []) (counted 7 0 5)
+        × (take 96 (drop (8192 + 160) (lived given buffer 256 four .ring)) ≡ take 96 (bytesOf 7))
+        × (take 32 (drop 8192 (lived given buffer 256 four .ring)) ≡ drop 96 (bytesOf 7))
+    -- "Payload 97: DROPPED, last 8 = 2 + 1 + 5."
+    pub line5 : (answers given buffer 256 five ≡ Done ∷ Done ∷ Done ∷ Done ∷ Done ∷ Done ∷ Done ∷ Dropped ∷ [])
+        × Shows (lived given buffer 256 five) 256 288 544 (6 ∷ 7 ∷ []) (counted (2 + 1 + 5) 1 5)
+    -- "A reader attached before line 1 now gets 6 (missed 5), 7 (missed 5), EMPTY."
+    pub line6 : ((old : Reader) → attached (afterCreate 3 (buffer 256)) old ≡ record { answer = attachment.Done; reader = standing 0 0 0 })
+        × ((out : List ℕ) → 128 ≤ length out → Reads (lived given buffer 256 five .ring) out (bytesOf 6) (bytesOf 7))
+    -- "Swapped to 512: tail 0, write 256, generation 2; the old page also shows 2."
+    pub line7 : Shows (swapped buffer 512 (lived given buffer 256 five)) 512 0 256 (6 ∷ 7 ∷ []) (counted 8 1 5)
+        × (pageOf (swapped buffer 512 (lived given buffer 256 five) .ring) .generation ≡ 2)
+        × (pageOf (retired buffer 512 (lived given buffer 256 five)) .generation ≡ 2)
+    -- "Another ring, 512, sizes 32 and 256, swapped to 256: only the second kept, write 256."
+    pub line8 : Shows (swapped buffer 256 (lived given buffer 512 (0 ∷ 224 ∷ []))) 256 0 256 (2 ∷ []) (counted 2 0 1)
+    -- "Ring 1024, one event of 512, swapped to 256: nothing kept, tail and write 0."
+    pub line9 : Shows (swapped buffer 256 (lived given buffer 1024 (480 ∷ []))) 256 0 0 [] (counted 1 0 1)
+    -- "Sizes 32, 32, 256, 256 into 256 and into 512: the first keeps 1 and 2, the second 3 and 4."
+    pub line10 : Shows (lived given buffer 256 ten) 256 0 64 (1 ∷ 2 ∷ []) (counted 4 2 0)
+        × Shows (lived given buffer 512 ten) 512 64 576 (3 ∷ 4 ∷ []) (counted 4 0 2)
+
+-- for all of that, as long as each buffer has its length
+abbrev pub AllSums : Type 0
+AllSums = (given : ℕ → Turn) (buffer : ℕ → List ℕ) → ((capacity : ℕ) → length (buffer capacity) ≡ 8192 + capacity) → Sums given buffer

@@ -1,6 +1,7 @@
 /*
  * The measured calls. Each is made twice on the same bytes, first by the archives, then by plain.c, and everything that the two left is compared.
- * For each pair one line is printed: group, what, archive's function, plain function, bytes copied, events looked at. bench/run lays the counts beside it.
+ * For each pair one line is printed: what was called, on what, the bytes that it copies or makes, and the events that it looks at or passes.
+ * bench/run lays the counts beside it.
  * Ends with 1 if anything differs: counts of unequal work would say nothing.
  */
 #include "lamipeonga.h"
@@ -30,6 +31,15 @@ static uint8_t payload[1024];
 static size_t ring_bytes;
 static unsigned long differences;
 
+static volatile unsigned long ended;
+void call_ended(void);
+
+/* marks the end of what is counted together */
+__attribute__((noinline)) void call_ended(void)
+{
+    ended++;
+}
+
 static uint64_t number_at(const uint8_t *at)
 {
     uint64_t value;
@@ -46,9 +56,12 @@ static void fresh(size_t capacity)
     memset(record[PREPARED], 0, sizeof record[PREPARED]);
 }
 
-static uint32_t add(size_t payload_bytes)
+/* the same with both positions elsewhere */
+static void fresh_at(size_t capacity, uint64_t position)
 {
-    return prepare_emit(ring[PREPARED], ring_bytes, record[PREPARED], sizeof record[PREPARED], 1, 1, 1, payload, payload_bytes);
+    fresh(capacity);
+    memcpy(ring[PREPARED] + 64, &position, sizeof position);
+    memcpy(ring[PREPARED] + 72, &position, sizeof position);
 }
 
 /* as many events of one size as go in with none passed */
@@ -58,7 +71,7 @@ static unsigned long fill(size_t capacity, size_t payload_bytes)
 
     fresh(capacity);
     for (unsigned long i = 0; i < events; i++)
-        add(payload_bytes);
+        prepare_emit(ring[PREPARED], ring_bytes, record[PREPARED], sizeof record[PREPARED], 1, 1, 1, payload, payload_bytes);
     return events;
 }
 
@@ -95,12 +108,14 @@ static void measure_emit(const char *group, size_t capacity, size_t payload_byte
     hand_to_both();
     answer[ARCHIVE] = lamipeonga_emit(ring[ARCHIVE], ring_bytes, record[ARCHIVE], sizeof record[ARCHIVE], TIMESTAMP, EVENT_TYPE, ORIGIN_CLASS, payload,
                                       payload_bytes);
+    call_ended();
     answer[PLAIN] =
         plain_emit(ring[PLAIN], ring_bytes, record[PLAIN], sizeof record[PLAIN], TIMESTAMP, EVENT_TYPE, ORIGIN_CLASS, payload, payload_bytes);
+    call_ended();
     same_answer(group, LAMIPEONGA_DONE, answer[ARCHIVE], answer[PLAIN]);
     same(group, ring[ARCHIVE], ring[PLAIN], ring_bytes);
     same(group, record[ARCHIVE], record[PLAIN], sizeof record[PLAIN]);
-    printf("%s|capacity %zu, payload %zu|lamipeonga_emit|plain_emit|%zu|%lu\n", group, capacity, payload_bytes,
+    printf("%s|capacity %zu, payload %zu|%zu|%lu\n", group, capacity, payload_bytes,
            LAMIPEONGA_HEADER_BYTES + payload_bytes, (unsigned long)(number_at(record[ARCHIVE] + 16) - overwritten));
 }
 
@@ -110,10 +125,12 @@ static void measure_inspect(const char *group, size_t capacity, unsigned long ev
 
     hand_to_both();
     answer[ARCHIVE] = lamipeonga_inspect(ring[ARCHIVE], ring_bytes);
+    call_ended();
     answer[PLAIN] = plain_inspect(ring[PLAIN], ring_bytes);
+    call_ended();
     same_answer(group, LAMIPEONGA_DONE, answer[ARCHIVE], answer[PLAIN]);
     same(group, ring[ARCHIVE], ring[PREPARED], ring_bytes);
-    printf("%s|capacity %zu, %lu events|lamipeonga_inspect|plain_inspect|0|%lu\n", group, capacity, events, events);
+    printf("%s|capacity %zu, %lu events|0|%lu\n", group, capacity, events, events);
 }
 
 /* the first event by an attached reader */
@@ -126,11 +143,13 @@ static void measure_read(const char *group, size_t capacity, size_t payload_byte
     memset(out, 0xEE, sizeof out);
     reader[ARCHIVE][24] = reader[PLAIN][24] = 1;
     answer[ARCHIVE] = bench_read(ring[ARCHIVE], ring_bytes, reader[ARCHIVE], sizeof reader[ARCHIVE], out[ARCHIVE], sizeof out[ARCHIVE]);
+    call_ended();
     answer[PLAIN] = plain_read(ring[PLAIN], ring_bytes, reader[PLAIN], sizeof reader[PLAIN], out[PLAIN], sizeof out[PLAIN]);
+    call_ended();
     same_answer(group, LAMIPEONGA_DONE, answer[ARCHIVE], answer[PLAIN]);
     same(group, reader[ARCHIVE], reader[PLAIN], sizeof reader[PLAIN]);
     same(group, out[ARCHIVE], out[PLAIN], sizeof out[PLAIN]);
-    printf("%s|capacity %zu, payload %zu|bench_read|plain_read|%zu|1\n", group, capacity, payload_bytes, LAMIPEONGA_HEADER_BYTES + payload_bytes);
+    printf("%s|capacity %zu, payload %zu|%zu|1\n", group, capacity, payload_bytes, LAMIPEONGA_HEADER_BYTES + payload_bytes);
 }
 
 static void measure_create(const char *group, size_t capacity)
@@ -140,10 +159,12 @@ static void measure_create(const char *group, size_t capacity)
     ring_bytes = LAMIPEONGA_RING_BYTES(capacity);
     memset(ring, 0xEE, sizeof ring);
     answer[ARCHIVE] = lamipeonga_create(ring[ARCHIVE], ring_bytes, CPU_ID);
+    call_ended();
     answer[PLAIN] = plain_create(ring[PLAIN], ring_bytes, CPU_ID);
+    call_ended();
     same_answer(group, LAMIPEONGA_DONE, answer[ARCHIVE], answer[PLAIN]);
     same(group, ring[ARCHIVE], ring[PLAIN], sizeof ring[PLAIN]);
-    printf("%s|capacity %zu|lamipeonga_create|plain_create|%zu|0\n", group, capacity, ring_bytes);
+    printf("%s|capacity %zu|%zu|0\n", group, capacity, ring_bytes);
 }
 
 static void measure_swap(const char *group, size_t capacity, size_t new_capacity, unsigned long events)
@@ -154,13 +175,14 @@ static void measure_swap(const char *group, size_t capacity, size_t new_capacity
     hand_to_both();
     memset(new_ring, 0xEE, sizeof new_ring);
     answer[ARCHIVE] = bench_swap(ring[ARCHIVE], ring_bytes, new_ring[ARCHIVE], new_bytes, record[ARCHIVE], sizeof record[ARCHIVE]);
+    call_ended();
     answer[PLAIN] = plain_swap(ring[PLAIN], ring_bytes, new_ring[PLAIN], new_bytes, record[PLAIN], sizeof record[PLAIN]);
+    call_ended();
     same_answer(group, LAMIPEONGA_DONE, answer[ARCHIVE], answer[PLAIN]);
     same(group, ring[ARCHIVE], ring[PLAIN], ring_bytes);
     same(group, new_ring[ARCHIVE], new_ring[PLAIN], sizeof new_ring[PLAIN]);
     same(group, record[ARCHIVE], record[PLAIN], sizeof record[PLAIN]);
-    printf("%s|%zu to %zu, %lu events|bench_swap|plain_swap|%zu|%lu\n", group, capacity, new_capacity, events, (size_t)number_at(new_ring[PLAIN] + 64),
-           events);
+    printf("%s|capacity %zu to %zu, %zu bytes kept|%zu|%lu\n", group, capacity, new_capacity, (size_t)number_at(new_ring[PLAIN] + 64), new_bytes, events);
 }
 
 static const size_t payloads[] = {0, 32, 96, 1000};
@@ -181,12 +203,9 @@ static void emissions(size_t capacity)
         fill(capacity, 0);
         measure_emit("emit, full of 32 bytes each", capacity, payloads[i]);
     }
-    /* half of the event lies behind the data's end */
     for EACH (i, payloads) {
-        fill(capacity, 0);
-        add(capacity / 2 - LAMIPEONGA_HEADER_BYTES);
-        add(capacity / 2 - LAMIPEONGA_HEADER_BYTES - (LAMIPEONGA_HEADER_BYTES + payloads[i]) / 2);
-        measure_emit("emit, in two stretches", capacity, payloads[i]);
+        fresh_at(capacity, capacity - (LAMIPEONGA_HEADER_BYTES + payloads[i]) / 2);
+        measure_emit("emit, room, half behind the data's end", capacity, payloads[i]);
     }
 }
 
@@ -198,20 +217,29 @@ static void readings(size_t capacity)
     }
 }
 
-static void whole_rings(size_t capacity)
+static void inspections(size_t capacity)
 {
     fresh(capacity);
     measure_inspect("inspect", capacity, 0);
     measure_inspect("inspect", capacity, fill(capacity, 0));
     measure_inspect("inspect", capacity, fill(capacity, 96));
+}
+
+static void creations(void)
+{
     measure_create("create", 256);
-    measure_create("create", capacity);
+    measure_create("create", 65536);
     measure_create("create", 1048576);
-    measure_swap("swap", capacity, capacity, fill(capacity, 96));
-    measure_swap("swap", capacity, capacity / 4, fill(capacity, 96));
-    measure_swap("swap", capacity, capacity * 4, fill(capacity, 96));
+}
+
+static void swaps(size_t capacity)
+{
     fresh(capacity);
     measure_swap("swap", capacity, capacity, 0);
+    measure_swap("swap", capacity, capacity, fill(capacity, 96));
+    measure_swap("swap", capacity, capacity, fill(capacity, 480));
+    measure_swap("swap", capacity, capacity / 4, fill(capacity, 96));
+    measure_swap("swap", capacity, capacity * 4, fill(capacity, 96));
 }
 
 static void growth(void)
@@ -240,7 +268,9 @@ int main(void)
 
     emissions(4096);
     readings(4096);
-    whole_rings(4096);
+    inspections(4096);
+    creations();
+    swaps(65536);
     growth();
     return differences != 0;
 }

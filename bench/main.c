@@ -1,7 +1,7 @@
 /*
  * The measured calls. Each is made twice on the same bytes, first by the archives, then by plain.c, and everything that the two left is compared.
  * For each pair one line is printed: what was called, on what, the bytes that it copies or makes, and the events that it looks at or passes.
- * bench/run lays the counts beside it.
+ * bench/run lays the counts beside it. The first line has addresses.
  * Ends with 1 if anything differs: counts of unequal work would say nothing.
  */
 #include "lamipeonga.h"
@@ -253,8 +253,19 @@ static void growth(void)
     }
 }
 
+/* where the mark and the calls stand, for a log of addresses */
+static void print_marks(void)
+{
+    printf("%016lx", (unsigned long)call_ended);
+    printf(" %016lx %016lx %016lx %016lx %016lx", (unsigned long)lamipeonga_create, (unsigned long)lamipeonga_emit, (unsigned long)lamipeonga_inspect,
+           (unsigned long)bench_read, (unsigned long)bench_swap);
+    printf(" %016lx %016lx %016lx %016lx %016lx\n", (unsigned long)plain_create, (unsigned long)plain_emit, (unsigned long)plain_inspect,
+           (unsigned long)plain_read, (unsigned long)plain_swap);
+}
+
 int main(void)
 {
+    print_marks();
     for (size_t i = 0; i < sizeof payload; i++)
         payload[i] = (uint8_t)(i * 7 + 1);
     /* the first calls also find memcpy and memset in the C library */

@@ -1,10 +1,9 @@
 # cases and counts (two lines to a case: the archive's, plain C's) as the tables of docs/BENCHMARK.md.
 FILENAME == ARGV[1] { count[FNR] = $1; next }
-$1 == "warm" { cases++; next }
+$1 == "warm" { next }
 {
     archive = count[2 * FNR - 1]
     plain = count[2 * FNR]
-    cases++
     group = $1
     kind = substr(group, 1, 6) == "growth" ? "growth" : group ~ /^emit/ ? "emit" : group
     if (kind != shown)

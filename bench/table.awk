@@ -17,7 +17,7 @@ $1 == "warm" { next }
     else if (kind == "inspect")
         print row ($4 == 0 ? " | |" : sprintf(" %.1f | %.1f |", (archive - empty) / $4, (plain - plain_empty) / $4))
     else
-        print row
+        grow()
     if (kind == "inspect" && $4 == 0) {
         empty = archive
         plain_empty = plain
@@ -42,5 +42,16 @@ function head(kind) {
     else if (kind == "inspect")
         print "\n" first " archive, per event | plain C, per event |\n" rule "---|---|"
     else
-        print "\n" first "\n" rule
+        print "\n| Capacity | emit, room: archive, plain C | emit, full: archive, plain C | inspect: archive, plain C | inspect, per event: archive, plain C |\n" rule
+}
+
+# three cases to a capacity, one line
+function grow() {
+    grown = grown sprintf(" %d, %d |", archive, plain)
+    if (group !~ /inspect/)
+        return
+    sub(/capacity /, "", $2)
+    sub(/,.*/, "", $2)
+    printf "| %s |%s %.1f, %.1f |\n", $2, grown, (archive - empty) / $4, (plain - plain_empty) / $4
+    grown = ""
 }

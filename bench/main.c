@@ -1,0 +1,287 @@
+/*
+ * The measured calls. Each is made twice on the same bytes, first by the archives, then by plain.c, and everything that the two left is compared.
+ * For each pair one line is printed: what was called, on what, the bytes that it copies or makes, and the events that it looks at or passes.
+ * bench/run lays the counts beside it. The first line has addresses.
+ * Ends with 1 if anything differs: counts of unequal work would say nothing.
+ */
+#include "lamipeonga.h"
+#include "plain.h"
+#include "prepare.h"
+
+#include <stdio.h>
+#include <string.h>
+
+uint32_t bench_read(const uint8_t *ring, size_t ring_bytes, uint8_t *record, size_t record_bytes, uint8_t *out, size_t out_bytes);
+uint32_t bench_swap(uint8_t *old, size_t old_bytes, uint8_t *new, size_t new_bytes, uint8_t *record, size_t record_bytes);
+
+enum { ARCHIVE, PLAIN, PREPARED };
+
+#define LARGEST (8192 + 1048576)
+#define CPU_ID 3
+#define TIMESTAMP 0x0102030405060708
+#define EVENT_TYPE 0x0A0B0C0D
+#define ORIGIN_CLASS 7
+
+static uint8_t ring[3][LARGEST];
+static uint8_t new_ring[2][LARGEST];
+static uint8_t record[3][24];
+static uint8_t reader[2][32];
+static uint8_t out[2][2048];
+static uint8_t payload[1024];
+static size_t ring_bytes;
+static unsigned long differences;
+
+static volatile unsigned long ended;
+void call_ended(void);
+
+/* marks the end of what is counted together */
+__attribute__((noinline)) void call_ended(void)
+{
+    ended++;
+}
+
+static uint64_t number_at(const uint8_t *at)
+{
+    uint64_t value;
+
+    memcpy(&value, at, sizeof value);
+    return value;
+}
+
+/* an empty ring, and its record */
+static void fresh(size_t capacity)
+{
+    ring_bytes = LAMIPEONGA_RING_BYTES(capacity);
+    prepare_create(ring[PREPARED], ring_bytes, CPU_ID);
+    memset(record[PREPARED], 0, sizeof record[PREPARED]);
+}
+
+/* the same with both positions elsewhere */
+static void fresh_at(size_t capacity, uint64_t position)
+{
+    fresh(capacity);
+    memcpy(ring[PREPARED] + 64, &position, sizeof position);
+    memcpy(ring[PREPARED] + 72, &position, sizeof position);
+}
+
+/* as many events of one size as go in with none passed */
+static unsigned long fill(size_t capacity, size_t payload_bytes)
+{
+    unsigned long events = capacity / (LAMIPEONGA_HEADER_BYTES + payload_bytes);
+
+    fresh(capacity);
+    for (unsigned long i = 0; i < events; i++)
+        prepare_emit(ring[PREPARED], ring_bytes, record[PREPARED], sizeof record[PREPARED], 1, 1, 1, payload, payload_bytes);
+    return events;
+}
+
+/* what was prepared, to both */
+static void hand_to_both(void)
+{
+    for (int who = ARCHIVE; who <= PLAIN; who++) {
+        memcpy(ring[who], ring[PREPARED], ring_bytes);
+        memcpy(record[who], record[PREPARED], sizeof record[who]);
+    }
+}
+
+static void same(const char *group, const void *a, const void *b, size_t bytes)
+{
+    if (memcmp(a, b, bytes) == 0)
+        return;
+    printf("differs: %s\n", group);
+    differences++;
+}
+
+static void same_answer(const char *group, uint32_t wanted, uint32_t archive, uint32_t plain)
+{
+    if (archive == wanted && plain == wanted)
+        return;
+    printf("differs: %s answers %u and %u, not %u\n", group, archive, plain, wanted);
+    differences++;
+}
+
+static void measure_emit(const char *group, size_t capacity, size_t payload_bytes)
+{
+    uint64_t overwritten = number_at(record[PREPARED] + 16);
+    uint32_t answer[2];
+
+    hand_to_both();
+    answer[ARCHIVE] = lamipeonga_emit(ring[ARCHIVE], ring_bytes, record[ARCHIVE], sizeof record[ARCHIVE], TIMESTAMP, EVENT_TYPE, ORIGIN_CLASS, payload,
+                                      payload_bytes);
+    call_ended();
+    answer[PLAIN] =
+        plain_emit(ring[PLAIN], ring_bytes, record[PLAIN], sizeof record[PLAIN], TIMESTAMP, EVENT_TYPE, ORIGIN_CLASS, payload, payload_bytes);
+    call_ended();
+    same_answer(group, LAMIPEONGA_DONE, answer[ARCHIVE], answer[PLAIN]);
+    same(group, ring[ARCHIVE], ring[PLAIN], ring_bytes);
+    same(group, record[ARCHIVE], record[PLAIN], sizeof record[PLAIN]);
+    printf("%s|capacity %zu, payload %zu|%zu|%lu\n", group, capacity, payload_bytes,
+           LAMIPEONGA_HEADER_BYTES + payload_bytes, (unsigned long)(number_at(record[ARCHIVE] + 16) - overwritten));
+}
+
+static void measure_inspect(const char *group, size_t capacity, unsigned long events)
+{
+    uint32_t answer[2];
+
+    hand_to_both();
+    answer[ARCHIVE] = lamipeonga_inspect(ring[ARCHIVE], ring_bytes);
+    call_ended();
+    answer[PLAIN] = plain_inspect(ring[PLAIN], ring_bytes);
+    call_ended();
+    same_answer(group, LAMIPEONGA_DONE, answer[ARCHIVE], answer[PLAIN]);
+    same(group, ring[ARCHIVE], ring[PREPARED], ring_bytes);
+    printf("%s|capacity %zu, %lu events|0|%lu\n", group, capacity, events, events);
+}
+
+/* the first event by an attached reader */
+static void measure_read(const char *group, size_t capacity, size_t payload_bytes)
+{
+    uint32_t answer[2];
+
+    hand_to_both();
+    memset(reader, 0, sizeof reader);
+    memset(out, 0xEE, sizeof out);
+    reader[ARCHIVE][24] = reader[PLAIN][24] = 1;
+    answer[ARCHIVE] = bench_read(ring[ARCHIVE], ring_bytes, reader[ARCHIVE], sizeof reader[ARCHIVE], out[ARCHIVE], sizeof out[ARCHIVE]);
+    call_ended();
+    answer[PLAIN] = plain_read(ring[PLAIN], ring_bytes, reader[PLAIN], sizeof reader[PLAIN], out[PLAIN], sizeof out[PLAIN]);
+    call_ended();
+    same_answer(group, LAMIPEONGA_DONE, answer[ARCHIVE], answer[PLAIN]);
+    same(group, reader[ARCHIVE], reader[PLAIN], sizeof reader[PLAIN]);
+    same(group, out[ARCHIVE], out[PLAIN], sizeof out[PLAIN]);
+    printf("%s|capacity %zu, payload %zu|%zu|1\n", group, capacity, payload_bytes, LAMIPEONGA_HEADER_BYTES + payload_bytes);
+}
+
+static void measure_create(const char *group, size_t capacity)
+{
+    uint32_t answer[2];
+
+    ring_bytes = LAMIPEONGA_RING_BYTES(capacity);
+    memset(ring, 0xEE, sizeof ring);
+    answer[ARCHIVE] = lamipeonga_create(ring[ARCHIVE], ring_bytes, CPU_ID);
+    call_ended();
+    answer[PLAIN] = plain_create(ring[PLAIN], ring_bytes, CPU_ID);
+    call_ended();
+    same_answer(group, LAMIPEONGA_DONE, answer[ARCHIVE], answer[PLAIN]);
+    same(group, ring[ARCHIVE], ring[PLAIN], sizeof ring[PLAIN]);
+    printf("%s|capacity %zu|%zu|0\n", group, capacity, ring_bytes);
+}
+
+static void measure_swap(const char *group, size_t capacity, size_t new_capacity, unsigned long events)
+{
+    size_t new_bytes = LAMIPEONGA_RING_BYTES(new_capacity);
+    uint32_t answer[2];
+
+    hand_to_both();
+    memset(new_ring, 0xEE, sizeof new_ring);
+    answer[ARCHIVE] = bench_swap(ring[ARCHIVE], ring_bytes, new_ring[ARCHIVE], new_bytes, record[ARCHIVE], sizeof record[ARCHIVE]);
+    call_ended();
+    answer[PLAIN] = plain_swap(ring[PLAIN], ring_bytes, new_ring[PLAIN], new_bytes, record[PLAIN], sizeof record[PLAIN]);
+    call_ended();
+    same_answer(group, LAMIPEONGA_DONE, answer[ARCHIVE], answer[PLAIN]);
+    same(group, ring[ARCHIVE], ring[PLAIN], ring_bytes);
+    same(group, new_ring[ARCHIVE], new_ring[PLAIN], sizeof new_ring[PLAIN]);
+    same(group, record[ARCHIVE], record[PLAIN], sizeof record[PLAIN]);
+    printf("%s|capacity %zu to %zu, %zu bytes kept|%zu|%lu\n", group, capacity, new_capacity, (size_t)number_at(new_ring[PLAIN] + 64), new_bytes, events);
+}
+
+static const size_t payloads[] = {0, 32, 96, 1000};
+
+#define EACH(i, list) (size_t i = 0; i < sizeof list / sizeof list[0]; i++)
+
+static void emissions(size_t capacity)
+{
+    for EACH (i, payloads) {
+        fresh(capacity);
+        measure_emit("emit, room", capacity, payloads[i]);
+    }
+    for EACH (i, payloads) {
+        fill(capacity, payloads[i]);
+        measure_emit("emit, full, one passed", capacity, payloads[i]);
+    }
+    for EACH (i, payloads) {
+        fill(capacity, 0);
+        measure_emit("emit, full of 32 bytes each", capacity, payloads[i]);
+    }
+    for EACH (i, payloads) {
+        fresh_at(capacity, capacity - (LAMIPEONGA_HEADER_BYTES + payloads[i]) / 2);
+        measure_emit("emit, room, half behind the data's end", capacity, payloads[i]);
+    }
+}
+
+static void readings(size_t capacity)
+{
+    for EACH (i, payloads) {
+        fill(capacity, payloads[i]);
+        measure_read("read", capacity, payloads[i]);
+    }
+}
+
+static void inspections(size_t capacity)
+{
+    fresh(capacity);
+    measure_inspect("inspect", capacity, 0);
+    measure_inspect("inspect", capacity, fill(capacity, 0));
+    measure_inspect("inspect", capacity, fill(capacity, 96));
+}
+
+static void creations(void)
+{
+    measure_create("create", 256);
+    measure_create("create", 65536);
+    measure_create("create", 1048576);
+}
+
+static void swaps(size_t capacity)
+{
+    fresh(capacity);
+    measure_swap("swap", capacity, capacity, 0);
+    measure_swap("swap", capacity, capacity, fill(capacity, 96));
+    measure_swap("swap", capacity, capacity, fill(capacity, 480));
+    measure_swap("swap", capacity, capacity / 4, fill(capacity, 96));
+    measure_swap("swap", capacity, capacity * 4, fill(capacity, 96));
+}
+
+static void growth(void)
+{
+    for (size_t capacity = 256; capacity <= 1048576; capacity *= 4) {
+        fresh(capacity);
+        measure_emit("growth: emit, room", capacity, 32);
+        fill(capacity, 32);
+        measure_emit("growth: emit, full", capacity, 32);
+        measure_inspect("growth: inspect", capacity, fill(capacity, 32));
+    }
+}
+
+/* where the mark and the calls stand, for a log of addresses */
+static void print_marks(void)
+{
+    printf("%016lx", (unsigned long)call_ended);
+    printf(" %016lx %016lx %016lx %016lx %016lx", (unsigned long)lamipeonga_create, (unsigned long)lamipeonga_emit, (unsigned long)lamipeonga_inspect,
+           (unsigned long)bench_read, (unsigned long)bench_swap);
+    printf(" %016lx %016lx %016lx %016lx %016lx\n", (unsigned long)plain_create, (unsigned long)plain_emit, (unsigned long)plain_inspect,
+           (unsigned long)plain_read, (unsigned long)plain_swap);
+}
+
+int main(void)
+{
+    print_marks();
+    for (size_t i = 0; i < sizeof payload; i++)
+        payload[i] = (uint8_t)(i * 7 + 1);
+    /* the first calls also find memcpy and memset in the C library */
+    fill(4096, 32);
+    measure_emit("warm", 4096, 1000);
+    measure_inspect("warm", 4096, 64);
+    measure_read("warm", 4096, 32);
+    measure_create("warm", 256);
+    fill(4096, 32);
+    measure_swap("warm", 4096, 4096, 64);
+
+    emissions(4096);
+    readings(4096);
+    inspections(4096);
+    creations();
+    swaps(65536);
+    growth();
+    return differences != 0;
+}

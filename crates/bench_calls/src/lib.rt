@@ -1,0 +1,79 @@
+// Reading and the swap as C can call them, for the measurement in bench/ alone: the firmware has no such calls (document 01, "Callers").
+// Records lie in bytes as the firmware's calls have them.
+use crate::reader_record::keep_reader;
+use crate::reader_record::reader_at;
+use console::answer::emitted_number;
+use console::answer::refusal_number;
+use console::record_bytes::keep;
+use console::record_bytes::read;
+use emit::Emitted;
+use emit::Outcome;
+use reader::Reading;
+use table::Refusal;
+ghost use mathlib.Core.Path.{_≡_};
+ghost use Rattle.bench_calls.specs.Calls.{readingNumber, sameOutcome, readCall, swapCall};
+
+pub mod reader_record;
+
+fn reading_number(reading: Reading) -> u32
+    ensures { λ r. ⌜ r ≡ readingNumber reading ⌝ }
+{
+    match reading {
+        Reading::Event(_) => 0,
+        Reading::Empty => 18,
+        Reading::Moved => 19,
+        Reading::Refused(refusal) => refusal_number(refusal),
+    }
+}
+
+// A swap answers as an emission does, so that its number and its record go the same way.
+fn same_outcome(outcome: swap::Outcome) -> Outcome
+    ensures { λ r. ⌜ r ≡ sameOutcome outcome ⌝ }
+{
+    match outcome {
+        swap::Outcome::Done => Outcome::Done,
+        swap::Outcome::Wake => Outcome::Wake,
+        swap::Outcome::Refused(refusal) => Outcome::Refused(refusal),
+    }
+}
+
+#[no_mangle]
+pub extern "C" fn bench_read(ring: &[u8], record: &mut [u8], out: &mut [u8]) -> u32
+    ensures answer { λ r. ⌜ r ≡ readCall (now (ring .entry)) (now («record» .entry)) (now (out .entry)) .answer ⌝ }
+    ensures kept { λ r. ⌜ now («record» .exit) ≡ readCall (now (ring .entry)) (now («record» .entry)) (now (out .entry)) .kept ⌝ }
+    ensures bytes { λ r. ⌜ now (out .exit) ≡ readCall (now (ring .entry)) (now («record» .entry)) (now (out .entry)) .out ⌝ }
+{
+    if record.len() != 32 {
+        return refusal_number(Refusal::Record);
+    }
+    let reader = reader_at(record);
+    let answered = reader::read::read(ring, reader, out);
+    keep_reader(record, answered.reader);
+    let reading = answered.answer;
+    reading_number(reading)
+}
+
+#[no_mangle]
+pub extern "C" fn bench_swap(old: &mut [u8], new: &mut [u8], record: &mut [u8]) -> u32
+    ensures answer { λ r. ⌜ r ≡ swapCall (now (old .entry)) (now (new .entry)) (now («record» .entry)) .answer ⌝ }
+    ensures left { λ r. ⌜ now (old .exit) ≡ swapCall (now (old .entry)) (now (new .entry)) (now («record» .entry)) .old ⌝ }
+    ensures made { λ r. ⌜ now (new .exit) ≡ swapCall (now (old .entry)) (now (new .entry)) (now («record» .entry)) .new ⌝ }
+    ensures kept { λ r. ⌜ now («record» .exit) ≡ swapCall (now (old .entry)) (now (new .entry)) (now («record» .entry)) .kept ⌝ }
+{
+    if record.len() != 24 {
+        return refusal_number(Refusal::Record);
+    }
+    let writer = read(record);
+    let swapped = swap::swap::swap(old, new, writer);
+    let told = swapped.outcome;
+    let next = swapped.writer;
+    let outcome = same_outcome(told);
+    keep(
+        record,
+        Emitted {
+            outcome: outcome,
+            writer: next,
+        },
+    );
+    emitted_number(outcome)
+}

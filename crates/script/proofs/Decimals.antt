@@ -1,0 +1,82 @@
+-- A field is read as the number n exactly where it is `decimal n` and n is below 2^64.
+use Prim.Native.Nat.{ℕ, zero, suc, _+_, _-_, _*_, _^_, _≤_, _<_}
+use mathlib.Core.Path.{_≡_, refl, sym, ap, _∙_}
+use mathlib.Core.Logic.{by-cases}
+use mathlib.Core.Bool.{Bool, true, false, cond}
+use mathlib.Core.List.{List, [], _∷_}
+use native.Mathlib.Decide.{decLt}
+use native.Mathlib.Omega.{arith}
+use borrow.Author.Tests.{eqb-false, ne-eqb}
+use lib.Dec.{eqb}
+use lib.ListN.{length, getD}
+use Rattle.text.specs.Decimal.{decimal, readOn, readBack, Digits, Numeral}
+use Rattle.text.proofs.Numerals.{decimal-numeral}
+use Rattle.text.proofs.Unique.{numeral-decimal, readOn-least}
+use Rattle.script.specs.declared.Parsed.{Parsed}
+use Rattle.script.specs.declared.Parsed.the-variants.{Is, Bad}
+use Rattle.script.specs.Number.{digitOn, readFrom, leadingZero, readNumber}
+use Rattle.script.proofs.Numbers.{digit-low, digit-high, digit-large, digit-fits, stays-bad, number-none, number-leading, number-read, zero-short, zero-first}
+
+not-bad : {n : ℕ} {A : Type 0} → Bad ≡ Is n → A
+not-bad {n} e = let no : _≡_ {A = ℕ} 0 1 = cc in absurd (omega (arith, no))
+
+-- ---- what was read
+
+record Digit (n byte m : ℕ) : Type 0 where
+  low : 48 ≤ byte
+  high : byte ≤ 57
+  value : m ≡ n * 10 + (byte - 48)
+  fits : m < 18446744073709551616
+
+digit-read : (n byte m : ℕ) → digitOn n byte ≡ Is m → Digit n byte m
+digit-read n byte m e =
+    by-cases (decLt byte 48)
+    (λ low. not-bad (sym (digit-low n byte low) ∙ e))
+    (λ notlow. by-cases (decLt 57 byte)
+    (λ high. not-bad (sym (digit-high n byte high) ∙ e))
+    (λ nothigh. by-cases (decLt (n * 10 + (byte - 48)) 18446744073709551616)
+    (λ fits.
+    let is : Is m ≡ Is (n * 10 + (byte - 48)) = sym e ∙ digit-fits n byte (omega arith) (omega arith) fits in
+    let same : m ≡ n * 10 + (byte - 48) = cc in
+    record { low = omega arith; high = omega arith; value = same; fits = omega arith })
+    (λ large. not-bad (sym (digit-large n byte (omega arith) (omega arith) (omega arith)) ∙ e))))
+
+record Read (n : ℕ) (text : List ℕ) (m : ℕ) : Type 0 where
+  digits : Digits text
+  value : readOn n text ≡ m
+  fits : m < 18446744073709551616
+
+module _ (m : ℕ) where
+  read-on : (n x : ℕ) (xs : List ℕ) (p : Parsed) → digitOn n x ≡ p → readFrom p xs ≡ Is m
+      → ((k : ℕ) → k < 18446744073709551616 → readFrom (Is k) xs ≡ Is m → Read k xs m) → Read n (x ∷ xs) m
+  read-on n x xs Bad e h on = not-bad (sym (stays-bad xs) ∙ h)
+  read-on n x xs (Is k) e h on =
+      let digit = digit-read n x k e in
+      let rest = on k (digit .fits) h in
+      record { digits = (digit .low, digit .high, rest .digits); value = rw (← digit .value) (rest .value); fits = rest .fits }
+
+  read-is : (xs : List ℕ) (n : ℕ) → n < 18446744073709551616 → readFrom (Is n) xs ≡ Is m → Read n xs m
+  read-is [] n h e = let same : n ≡ m = cc in record { digits = tt; value = same; fits = omega arith }
+  read-is (x ∷ xs) n h e = read-on n x xs (digitOn n x) refl e (read-is xs)
+
+module _ (n : ℕ) where
+  by-leading : (field : List ℕ) (t : Bool) → leadingZero field ≡ t → 0 < length field → readNumber field ≡ Is n → (field ≡ decimal n) × (n < 18446744073709551616)
+  by-leading field true z some e = not-bad (sym (number-leading field z) ∙ e)
+  by-leading field false z some e =
+      let read = read-is n field 0 (omega arith) (sym (number-read field some z) ∙ e) in (
+        numeral-decimal n field record {
+          reads = read .value;
+          digits = read .digits;
+          some = some;
+          leads = λ lead. by-cases (decLt (length field) 2)
+              (λ one. omega arith)
+              (λ more. absurd (eqb-false (getD field 0 0) 48 (sym (zero-first field (omega arith)) ∙ z) lead));
+        },
+        read .fits,
+      )
+
+  pub number-decimal : (field : List ℕ) → readNumber field ≡ Is n → (field ≡ decimal n) × (n < 18446744073709551616)
+  number-decimal field e =
+      by-cases (decLt 0 (length field))
+      (λ some. by-leading field (leadingZero field) refl some e)
+      (λ none. not-bad (sym (number-none field (omega arith)) ∙ e))

@@ -131,3 +131,14 @@ pub field-some : (bytes : List ℕ) → (length bytes ≡ 0 → ⊥) → hexFiel
 unfolding hexField
 field-some [] ne = absurd (ne refl)
 field-some (x ∷ xs) ne = refl
+
+-- ---- the room that they take
+
+text-length : (bytes : List ℕ) → length (hexText bytes) ≡ 2 * length bytes
+text-length [] = refl
+text-length (x ∷ xs) = omega (arith, text-length xs)
+
+pub field-fits : (room : ℕ) (bytes : List ℕ) → 0 < room → length bytes ≤ room → length (hexField bytes) ≤ 2 * room
+unfolding hexField
+field-fits room [] h g = omega arith
+field-fits room (x ∷ xs) h g = omega (arith, text-length (x ∷ xs))

@@ -80,3 +80,27 @@ module _ (n : ℕ) where
       by-cases (decLt 0 (length field))
       (λ some. by-leading field (leadingZero field) refl some e)
       (λ none. not-bad (sym (number-none field (omega arith)) ∙ e))
+
+-- ---- every number is read back from its text
+
+read-all : (xs : List ℕ) (n : ℕ) → Digits xs → readOn n xs < 18446744073709551616 → readFrom (Is n) xs ≡ Is (readOn n xs)
+read-all [] n f h = refl
+read-all (x ∷ xs) n f h =
+    let fits : n * 10 + (x - 48) < 18446744073709551616 = omega (arith, readOn-least (n * 10 + (x - 48)) xs) in
+    ap (λ (p : Parsed). readFrom p xs) (digit-fits n x (f .0) (f .1) fits) ∙ read-all xs (n * 10 + (x - 48)) (f .2) h
+
+no-leading : (n : ℕ) → leadingZero (decimal n) ≡ false
+no-leading n =
+    by-cases (decLt (length (decimal n)) 2)
+    (λ one. zero-short (decimal n) one)
+    (λ more.
+    let first : getD (decimal n) 0 0 ≡ 48 → ⊥ = λ e. omega (arith, decimal-numeral n .leads e) in
+    zero-first (decimal n) (omega arith) ∙ ne-eqb (getD (decimal n) 0 0) 48 first)
+
+pub decimal-number : (n : ℕ) → n < 18446744073709551616 → readNumber (decimal n) ≡ Is n
+decimal-number n h =
+    let numeral = decimal-numeral n in
+    let fits : readOn 0 (decimal n) < 18446744073709551616 = omega (arith, numeral .reads) in
+    number-read (decimal n) (numeral .some) (no-leading n)
+    ∙ read-all (decimal n) 0 (numeral .digits) fits
+    ∙ ap (λ (m : ℕ). Is m) (numeral .reads)

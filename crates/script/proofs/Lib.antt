@@ -3,3 +3,5 @@ pub mod Numbers
 pub mod Decimals
 pub mod Digits
 pub mod Pairs
+pub mod Back
+mod Examples

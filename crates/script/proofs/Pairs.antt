@@ -134,7 +134,7 @@ field-some (x ∷ xs) ne = refl
 
 -- ---- the room that they take
 
-text-length : (bytes : List ℕ) → length (hexText bytes) ≡ 2 * length bytes
+pub text-length : (bytes : List ℕ) → length (hexText bytes) ≡ 2 * length bytes
 text-length [] = refl
 text-length (x ∷ xs) = omega (arith, text-length xs)
 

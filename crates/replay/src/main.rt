@@ -1,4 +1,5 @@
 // Plays a script of calls on rings, of at most 1 MiB on standard input, and answers each line by a line (tests/second/README.md, "A script").
+mod adler;
 mod command;
 mod memory;
 mod play;

@@ -1,4 +1,4 @@
-// The commands on the bytes of one buffer: size, put, get, sum.
+// The commands on the bytes of one buffer: size, put, get.
 use crate::room::buffer_room;
 use crate::say;
 use crate::state::State;
@@ -10,27 +10,7 @@ use script::hex::hex;
 use script::number::number;
 use word::run::clear;
 use word::run::copy;
-ghost use Prim.Native.Nat.{_<_, _≤_};
-ghost use mathlib.Core.Path.{_≡_};
-
-fn wide(byte: u8) -> u64
-    ensures { λ r. ⌜ (r ≡ byte) × (r < 256) ⌝ }
-{
-    byte as u64
-}
-
-// Adler-32, for which an empty buffer is 1.
-pub fn adler32(bytes: &[u8]) -> u64 {
-    let mut low = 1;
-    let mut high = 0;
-    let mut i = 0;
-    while i < bytes.len() {
-        low = (low + wide(bytes[i])) % 65521;
-        high = (high + low) % 65521;
-        i += 1;
-    }
-    high * 65536 + low
-}
+ghost use Prim.Native.Nat.{_≤_};
 
 pub fn size(line: &[u8], state: State, b: usize, buffer: &mut [u8]) -> State
     requires { ⌜ b ≤ 3 ⌝ }

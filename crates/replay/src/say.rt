@@ -1,4 +1,5 @@
 // Answers to standard output.
+use crate::adler::adler32;
 use crate::room::text_room;
 use io::write_all;
 use libc::STDOUT_FILENO;
@@ -54,6 +55,6 @@ pub fn reader(record: Reader) {
 }
 
 pub fn sum(bytes: &[u8]) {
-    number(b"sum ", crate::memory::adler32(bytes));
+    number(b"sum ", adler32(bytes));
     words(b"\n");
 }

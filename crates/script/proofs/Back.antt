@@ -1,15 +1,15 @@
 -- Bytes written as a field are read back from it.
-use Prim.Native.Nat.{ℕ, zero, suc, _+_, _-_, _*_, _/_, _%_, _≤_, _<_}
-use mathlib.Core.Path.{_≡_, refl, sym, ap, _∙_}
+use Prim.Native.Nat.{ℕ, suc, _+_, _*_, _/_, _%_, _≤_, _<_}
+use mathlib.Core.Path.{_≡_, refl, _∙_}
 use mathlib.Core.Logic.{by-cases}
-use mathlib.Core.Bool.{Bool, true, false}
+use mathlib.Core.Bool.{true, false}
 use mathlib.Core.List.{List, [], _∷_}
 use native.Mathlib.Decide.{decLt}
 use native.Mathlib.Omega.{arith}
 use borrow.Author.Tests.{ne-eqb}
 use lib.Dec.{eqb}
 use lib.ListN.{length, getD}
-use Rattle.script.specs.Hex.{valueOf, allHex, isDash, spells, unhex, hexCount, hexBytes, hexDigit, hexText, hexField}
+use Rattle.script.specs.Hex.{valueOf, allHex, isDash, unhex, hexCount, hexBytes, hexDigit, hexText, hexField}
 use Rattle.script.proofs.Digits.{value-digit, value-letter, dash-other, digit-small, digit-large}
 use Rattle.script.proofs.Pairs.{spells-digits, count-spelt, bytes-spelt, text-length}
 

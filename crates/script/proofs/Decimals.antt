@@ -1,15 +1,14 @@
 -- A field is read as the number n exactly where it is `decimal n` and n is below 2^64.
-use Prim.Native.Nat.{ℕ, zero, suc, _+_, _-_, _*_, _^_, _≤_, _<_}
+use Prim.Native.Nat.{ℕ, _+_, _-_, _*_, _≤_, _<_}
 use mathlib.Core.Path.{_≡_, refl, sym, ap, _∙_}
 use mathlib.Core.Logic.{by-cases}
-use mathlib.Core.Bool.{Bool, true, false, cond}
+use mathlib.Core.Bool.{Bool, true, false}
 use mathlib.Core.List.{List, [], _∷_}
 use native.Mathlib.Decide.{decLt}
 use native.Mathlib.Omega.{arith}
 use borrow.Author.Tests.{eqb-false, ne-eqb}
-use lib.Dec.{eqb}
 use lib.ListN.{length, getD}
-use Rattle.text.specs.Decimal.{decimal, readOn, readBack, Digits, Numeral}
+use Rattle.text.specs.Decimal.{decimal, readOn, Digits}
 use Rattle.text.proofs.Numerals.{decimal-numeral}
 use Rattle.text.proofs.Unique.{numeral-decimal, readOn-least}
 use Rattle.script.specs.declared.Parsed.{Parsed}

@@ -1,10 +1,9 @@
-use Prim.Native.Nat.{ℕ, suc, _+_, _-_, _*_, _/_, _%_, _≤_, _<_}
-use mathlib.Core.Path.{_≡_, refl, sym, ap, _∙_}
-use mathlib.Core.Bool.{true, false}
+use Prim.Native.Nat.{_-_, _≤_}
+use mathlib.Core.Path.{_≡_, sym, _∙_}
 use native.Mathlib.Omega.{arith}
-use lib.ListN.{length, drop, getD}
+use lib.ListN.{length, drop}
 use denote.Ref.{now}
-use Rattle.script.specs.Field.{upTo, fieldOf}
+use Rattle.script.specs.Field.{fieldOf}
 use Rattle.script.proofs.Fields.{field-last, field-turn, field-missing}
 use borrow.Author.Needs.{needs}
 use Rattle.script.proofs.field.field.Statement.{statement}

@@ -1,9 +1,8 @@
-use Prim.Native.Nat.{ℕ, suc, _+_, _-_, _*_, _/_, _≤_, _<_}
-use mathlib.Core.Path.{_≡_, refl, sym, _∙_}
-use mathlib.Core.Bool.{true, false}
+use Prim.Native.Nat.{_-_, _≤_}
+use mathlib.Core.Path.{_≡_, sym, _∙_}
 use native.Mathlib.Omega.{arith}
-use lib.ListN.{length, drop, getD}
-use Rattle.script.specs.Field.{upTo, fieldOf, parts, alike}
+use lib.ListN.{length, drop}
+use Rattle.script.specs.Field.{alike}
 use Rattle.script.proofs.Fields.{alike-more, alike-not, alike-end, alike-lengths}
 use borrow.Author.Needs.{needs}
 use Rattle.script.proofs.field.same.Statement.{statement}

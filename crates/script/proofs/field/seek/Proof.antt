@@ -1,9 +1,8 @@
-use Prim.Native.Nat.{ℕ, suc, _+_, _-_, _*_, _/_, _≤_, _<_}
-use mathlib.Core.Path.{_≡_, refl, sym, _∙_}
-use mathlib.Core.Bool.{true, false}
+use Prim.Native.Nat.{_+_, _-_, _≤_}
+use mathlib.Core.Path.{_≡_}
 use native.Mathlib.Omega.{arith}
-use lib.ListN.{length, drop, getD}
-use Rattle.script.specs.Field.{upTo, fieldOf, parts, alike}
+use lib.ListN.{length, drop}
+use Rattle.script.specs.Field.{upTo}
 use Rattle.script.proofs.Fields.{upTo-stop, upTo-more, upTo-end}
 use borrow.Author.Needs.{needs}
 use Rattle.script.proofs.field.seek.Statement.{statement}

@@ -1,9 +1,8 @@
-use Prim.Native.Nat.{ℕ, suc, _+_, _-_, _*_, _/_, _≤_, _<_}
-use mathlib.Core.Path.{_≡_, refl, sym, _∙_}
-use mathlib.Core.Bool.{true, false}
+use Prim.Native.Nat.{_-_, _≤_}
+use mathlib.Core.Path.{_≡_, sym, _∙_}
 use native.Mathlib.Omega.{arith}
-use lib.ListN.{length, drop, getD}
-use Rattle.script.specs.Hex.{valueOf, allHex, unhex, hexText}
+use lib.ListN.{length, drop}
+use Rattle.script.specs.Hex.{allHex}
 use Rattle.script.proofs.Digits.{hex-more, hex-not, hex-end}
 use borrow.Author.Needs.{needs}
 use Rattle.script.proofs.hex.all_digits.Statement.{statement}

@@ -1,9 +1,4 @@
-use Prim.Native.Nat.{ℕ, suc, _+_, _-_, _*_, _/_, _%_, _≤_, _<_}
-use mathlib.Core.Path.{_≡_, refl, sym, ap, _∙_}
-use mathlib.Core.Bool.{true, false}
-use native.Mathlib.Omega.{arith}
-use lib.ListN.{length, drop, getD}
-use denote.Ref.{now}
+use mathlib.Core.Path.{sym}
 use Rattle.script.proofs.Digits.{digit-small, digit-large}
 use borrow.Author.Needs.{needs}
 use Rattle.script.proofs.hex.digit_of.Statement.{statement}

@@ -1,9 +1,5 @@
-use Prim.Native.Nat.{ℕ, suc, _+_, _-_, _*_, _/_, _%_, _≤_, _<_}
-use mathlib.Core.Path.{_≡_, refl, sym, ap, _∙_}
-use mathlib.Core.Bool.{true, false}
+use mathlib.Core.Path.{sym}
 use native.Mathlib.Omega.{arith}
-use lib.ListN.{length, drop, getD}
-use denote.Ref.{now}
 use Rattle.script.proofs.Digits.{value-low, value-digit, value-between, value-letter, value-high}
 use borrow.Author.Needs.{needs}
 use Rattle.script.proofs.hex.digit_value.Statement.{statement}

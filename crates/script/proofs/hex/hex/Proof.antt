@@ -1,9 +1,7 @@
 use borrow.Author.Tests.{not-true, not-false}
-use Prim.Native.Nat.{ℕ, suc, _+_, _-_, _*_, _/_, _%_, _≤_, _<_}
-use mathlib.Core.Path.{_≡_, refl, sym, ap, _∙_}
-use mathlib.Core.Bool.{true, false}
+use mathlib.Core.Path.{refl, sym}
 use native.Mathlib.Omega.{arith}
-use lib.ListN.{length, drop, getD}
+use lib.ListN.{length}
 use denote.Ref.{now}
 use Rattle.table.proofs.Tests.{carried}
 use Rattle.script.proofs.Pairs.{count-dash, count-bad, count-spelt, bytes-dash, bytes-bad, bytes-spelt, spelling}

@@ -1,13 +1,13 @@
 use mathlib.Core.List.{[], _∷_}
-use Prim.Native.Nat.{ℕ, suc, _+_, _-_, _*_, _/_, _≤_, _<_}
-use mathlib.Core.Path.{_≡_, refl, sym, _∙_}
-use mathlib.Core.Bool.{true, false}
+use Prim.Native.Nat.{_+_, _-_, _*_, _≤_}
+use mathlib.Core.Path.{_≡_}
+use mathlib.Core.Bool.{true}
 use native.Mathlib.Omega.{arith}
-use lib.ListN.{length, drop, getD}
-use Rattle.script.specs.Hex.{valueOf, allHex, unhex, hexText}
+use lib.ListN.{drop}
+use Rattle.script.specs.Hex.{allHex, unhex}
 use Rattle.text.proofs.Remaining.{Left, put-whole, put-rest, put-done}
 use Rattle.text.proofs.Writing.{put-one}
-use Rattle.script.proofs.Pairs.{Spelling, spelling, unhex-turn, unhex-end, pair-digits, below-sixteen}
+use Rattle.script.proofs.Pairs.{spelling, unhex-turn, unhex-end, pair-digits, below-sixteen}
 use borrow.Author.Needs.{needs}
 use Rattle.script.proofs.hex.put_pairs.Statement.{statement}
 use Rattle.script.proofs.hex.put_pairs.Tie as tie

@@ -1,11 +1,10 @@
-use mathlib.Core.Path.{_≡_, refl, sym, ap, _∙_}
+use mathlib.Core.Path.{ap}
 use mathlib.Core.List.{[], _∷_}
-use Prim.Native.Nat.{ℕ, suc, _+_, _-_, _*_, _/_, _≤_, _<_}
-use mathlib.Core.Bool.{true, false}
+use Prim.Native.Nat.{_+_, _-_, _≤_}
 use native.Mathlib.Omega.{arith}
-use lib.ListN.{length, drop, getD}
-use Rattle.script.specs.Hex.{valueOf, allHex, unhex, hexText}
-use Rattle.text.proofs.Remaining.{Left, put-whole, put-rest, put-done}
+use lib.ListN.{length, drop}
+use Rattle.script.specs.Hex.{hexText}
+use Rattle.text.proofs.Remaining.{Left, put-rest, put-done}
 use Rattle.text.proofs.Writing.{put-then, put-length}
 use Rattle.script.proofs.Pairs.{text-turn, text-end}
 use borrow.Author.Needs.{needs}

@@ -1,11 +1,10 @@
 use Rattle.table.proofs.Tests.{carried}
-use Prim.Native.Nat.{ℕ, suc, _+_, _-_, _*_, _/_, _%_, _≤_, _<_}
-use mathlib.Core.Path.{_≡_, refl, sym, ap, _∙_}
-use mathlib.Core.Bool.{true, false}
+use Prim.Native.Nat.{_-_, _≤_}
+use mathlib.Core.Path.{_≡_, sym, _∙_}
 use native.Mathlib.Omega.{arith}
-use lib.ListN.{length, drop, getD}
+use lib.ListN.{length, drop}
 use denote.Ref.{now}
-use Rattle.script.specs.declared.Parsed.the-variants.{Is, Bad}
+use Rattle.script.specs.declared.Parsed.the-variants.{Is}
 use Rattle.script.specs.Number.{readFrom, readNumber}
 use Rattle.script.proofs.Numbers.{read-turn, read-bad, read-end, number-none, number-leading, number-read}
 use borrow.Author.Needs.{needs}

@@ -29,7 +29,7 @@ digits-behind : (xs ys : List ℕ) → Digits (xs ++ ys) → Digits ys
 digits-behind [] ys f = f
 digits-behind (x ∷ xs) ys f = digits-behind xs ys (f .2)
 
-readOn-least : (before : ℕ) (xs : List ℕ) → before ≤ readOn before xs
+pub readOn-least : (before : ℕ) (xs : List ℕ) → before ≤ readOn before xs
 readOn-least before [] = omega arith
 readOn-least before (x ∷ xs) = omega (arith, readOn-least (before * 10 + (x - 48)) xs)
 

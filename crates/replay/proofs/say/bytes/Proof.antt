@@ -1,0 +1,52 @@
+use Prim.Native.Nat.{_≤_}
+use native.Mathlib.Omega.{arith}
+use lib.ListN.{length}
+use Rattle.text.proofs.Writing.{put-length}
+use Rattle.script.proofs.Pairs.{field-fits}
+use borrow.Author.Needs.{needs}
+use Rattle.replay.proofs.say.bytes.Statement.{statement}
+use Rattle.replay.proofs.say.bytes.Tie as tie
+
+returns : tie.Need-returns
+returns c = search needs
+
+text-room-requires : tie.Need-text-room-requires
+text-room-requires c κs = search needs
+
+slice-aggregate-put-hex : tie.Need-slice-aggregate-put-hex
+slice-aggregate-put-hex c = search needs
+
+put-hex-requires : tie.Need-put-hex-requires
+put-hex-requires c κs = omega (arith, field-fits 40960 (c .before .before .before .before .args .buffer .now) (omega arith) (omega arith))
+
+sub-words : tie.Need-sub-words
+sub-words c = search needs
+
+part-words-start : tie.Need-part-words-start
+part-words-start c = search needs
+
+part-words-end : tie.Need-part-words-end
+part-words-end c = let buffer = c .before .before .before .before .before .before .before .args .buffer .now in
+    let put = c .before .before .put-hex .ensures in
+    let end : c .before .before .put-hex .result ≤ length (c .before .before .put-hex .last .1 .0) = omega (arith, put .place, put-length put, field-fits 40960 buffer (omega arith) (omega arith)) in
+    search needs
+
+words-requires : tie.Need-words-requires
+words-requires c κs = search needs
+
+returns-2 : tie.Need-returns-2
+returns-2 c = search needs
+
+pub bytes-spec : {M : Type 1} → statement M
+bytes-spec =
+    tie.close
+    (tie.spec
+    returns
+    text-room-requires
+    slice-aggregate-put-hex
+    put-hex-requires
+    sub-words
+    part-words-start
+    part-words-end
+    words-requires
+    returns-2)

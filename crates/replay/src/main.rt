@@ -1,0 +1,35 @@
+// Plays a script of calls on rings, of at most 1 MiB on standard input, and answers each line by a line (tests/second/README.md, "A script").
+mod adler;
+mod command;
+mod memory;
+mod play;
+mod records;
+mod ring;
+mod room;
+mod say;
+mod state;
+
+use room::buffer_room;
+use room::script_room;
+
+fn main() {
+    let mut script = script_room();
+    let n = io::read_full(0, &mut script);
+    if n > 1048576 {
+        say::words(b"too long\n");
+        return;
+    }
+    let mut first = buffer_room();
+    let mut second = buffer_room();
+    let mut third = buffer_room();
+    let mut fourth = buffer_room();
+    let mut out = buffer_room();
+    play::play(
+        &script[..n],
+        &mut first,
+        &mut second,
+        &mut third,
+        &mut fourth,
+        &mut out,
+    );
+}

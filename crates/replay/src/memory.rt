@@ -1,0 +1,72 @@
+// The commands on the bytes of one buffer: size, put, get.
+use crate::room::buffer_room;
+use crate::say;
+use crate::state::State;
+use crate::state::unknown;
+use crate::state::with_length;
+use script::Parsed;
+use script::field::field;
+use script::hex::hex;
+use script::number::number;
+use word::run::clear;
+use word::run::copy;
+ghost use Prim.Native.Nat.{_≤_};
+
+pub fn size(line: &[u8], state: State, b: usize, buffer: &mut [u8]) -> State
+    requires { ⌜ b ≤ 3 ⌝ }
+{
+    let Parsed::Is(n) = number(field(line, 2)) else {
+        return unknown(state);
+    };
+    if n > buffer.len() as u64 {
+        say::words(b"too long\n");
+        return state;
+    }
+    clear(buffer);
+    say::words(b"ok\n");
+    with_length(state, b, n as usize)
+}
+
+pub fn put(line: &[u8], state: State, buffer: &mut [u8]) -> State {
+    let mut bytes = buffer_room();
+    let n = hex(field(line, 3), &mut bytes);
+    let Parsed::Is(at) = number(field(line, 2)) else {
+        return unknown(state);
+    };
+    if n > 40960 {
+        return unknown(state);
+    }
+    if at > buffer.len() as u64 {
+        say::words(b"outside\n");
+        return state;
+    }
+    if n > buffer.len() - at as usize {
+        say::words(b"outside\n");
+        return state;
+    }
+    copy(buffer, at as usize, &bytes[0..n]);
+    say::words(b"ok\n");
+    state
+}
+
+pub fn get(line: &[u8], state: State, buffer: &[u8]) -> State {
+    let Parsed::Is(at) = number(field(line, 2)) else {
+        return unknown(state);
+    };
+    let Parsed::Is(n) = number(field(line, 3)) else {
+        return unknown(state);
+    };
+    if at > buffer.len() as u64 {
+        say::words(b"outside\n");
+        return state;
+    }
+    if n > buffer.len() as u64 - at {
+        say::words(b"outside\n");
+        return state;
+    }
+    let start = at as usize;
+    let end = (at + n) as usize;
+    say::bytes(&buffer[start..end]);
+    say::words(b"\n");
+    state
+}

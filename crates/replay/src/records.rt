@@ -1,0 +1,68 @@
+// The commands that set records: any numbers are taken.
+use crate::say::words;
+use crate::state::State;
+use crate::state::unknown;
+use crate::state::with_reader;
+use crate::state::with_writer;
+use reader::Reader;
+use script::Parsed;
+use script::field::field;
+use script::number::number;
+use script::number::number_to;
+use writer::Writer;
+
+pub fn set_writer(line: &[u8], state: State) -> State {
+    let w = number_to(field(line, 1), 3);
+    let Parsed::Is(last) = number(field(line, 2)) else {
+        return unknown(state);
+    };
+    let Parsed::Is(dropped) = number(field(line, 3)) else {
+        return unknown(state);
+    };
+    let Parsed::Is(overwritten) = number(field(line, 4)) else {
+        return unknown(state);
+    };
+    if w > 3 {
+        return unknown(state);
+    }
+    words(b"ok\n");
+    with_writer(
+        state,
+        w,
+        Writer {
+            last: last,
+            dropped: dropped,
+            overwritten: overwritten,
+        },
+    )
+}
+
+pub fn set_reader(line: &[u8], state: State) -> State {
+    let r = number_to(field(line, 1), 3);
+    let Parsed::Is(read_pos) = number(field(line, 2)) else {
+        return unknown(state);
+    };
+    let Parsed::Is(last) = number(field(line, 3)) else {
+        return unknown(state);
+    };
+    let Parsed::Is(handed) = number(field(line, 4)) else {
+        return unknown(state);
+    };
+    let Parsed::Is(generation) = number(field(line, 5)) else {
+        return unknown(state);
+    };
+    if r > 3 {
+        return unknown(state);
+    }
+    words(b"ok\n");
+    with_reader(
+        state,
+        r,
+        Reader {
+            read_pos: read_pos,
+            last: last,
+            handed: handed,
+            generation: generation,
+        },
+    )
+}

@@ -1,0 +1,183 @@
+// The operations on one ring, and the swap from one to another: a function for each, which reads the line's fields, makes the call and says its answer.
+use crate::room::buffer_room;
+use crate::say;
+use crate::state::State;
+use crate::state::unknown;
+use crate::state::with_reader;
+use crate::state::with_writer;
+use create::Created;
+use emit::Label;
+use inspect::Inspected;
+use reader::Attached;
+use reader::Attachment;
+use reader::Reading;
+use script::Parsed;
+use script::field::field;
+use script::hex::hex;
+use script::number::number;
+use script::number::number_to;
+ghost use Prim.Native.Nat.{_≤_};
+
+pub fn create(line: &[u8], state: State, ring: &mut [u8]) -> State {
+    let cpu_id = number_to(field(line, 2), 65535);
+    if cpu_id > 65535 {
+        return unknown(state);
+    }
+    match create::create(ring, cpu_id as u16) {
+        Created::Done => say::words(b"done"),
+        Created::Refused(refused) => say::refusal(refused),
+    }
+    say::words(b"\n");
+    state
+}
+
+fn emission(answer: emit::Outcome) {
+    match answer {
+        emit::Outcome::Done => say::words(b"done"),
+        emit::Outcome::Wake => say::words(b"wake"),
+        emit::Outcome::Dropped => say::words(b"dropped"),
+        emit::Outcome::Refused(refused) => say::refusal(refused),
+    }
+}
+
+// The fields that an emission has beside its payload.
+fn emit_payload(line: &[u8], state: State, ring: &mut [u8], payload: &[u8]) -> State {
+    let w = number_to(field(line, 2), 3);
+    let event_type = number_to(field(line, 4), 4294967295);
+    let origin_class = number_to(field(line, 5), 255);
+    let Parsed::Is(timestamp) = number(field(line, 3)) else {
+        return unknown(state);
+    };
+    if w > 3 {
+        return unknown(state);
+    }
+    if event_type > 4294967295 {
+        return unknown(state);
+    }
+    if origin_class > 255 {
+        return unknown(state);
+    }
+    let label = Label {
+        timestamp: timestamp,
+        event_type: event_type as u32,
+        origin_class: origin_class as u8,
+    };
+    let emitted = emit::emit::emit(ring, state.writers[w], label, payload);
+    let outcome = emitted.outcome;
+    emission(outcome);
+    say::writer(emitted.writer);
+    with_writer(state, w, emitted.writer)
+}
+
+pub fn emit(line: &[u8], state: State, ring: &mut [u8]) -> State {
+    let mut payload = buffer_room();
+    let n = hex(field(line, 6), &mut payload);
+    if n > 40960 {
+        return unknown(state);
+    }
+    emit_payload(line, state, ring, &payload[0..n])
+}
+
+// A payload of zero bytes, by its length.
+pub fn emitlen(line: &[u8], state: State, ring: &mut [u8]) -> State {
+    let n = number_to(field(line, 6), 40960);
+    if n > 40960 {
+        return unknown(state);
+    }
+    let payload = buffer_room();
+    emit_payload(line, state, ring, &payload[0..n])
+}
+
+pub fn inspect(ring: &[u8]) {
+    match inspect::inspect(ring) {
+        Inspected::Whole(summary) => {
+            say::number(b"kept ", summary.count);
+            say::number(b" first ", summary.first);
+            say::number(b" last ", summary.last);
+        }
+        Inspected::Refused(refused) => say::refusal(refused),
+    }
+    say::words(b"\n");
+}
+
+// What attaching and following answer.
+fn attachment(state: State, r: usize, attached: Attached) -> State
+    requires { ⌜ r ≤ 3 ⌝ }
+{
+    let answer = attached.answer;
+    match answer {
+        Attachment::Done => say::words(b"done"),
+        Attachment::Refused(refused) => say::refusal(refused),
+    }
+    say::reader(attached.reader);
+    with_reader(state, r, attached.reader)
+}
+
+pub fn attach(line: &[u8], state: State, ring: &[u8]) -> State {
+    let r = number_to(field(line, 2), 3);
+    if r > 3 {
+        return unknown(state);
+    }
+    attachment(state, r, reader::attach::attach(ring, state.readers[r]))
+}
+
+pub fn follow(line: &[u8], state: State, ring: &[u8]) -> State {
+    let r = number_to(field(line, 2), 3);
+    if r > 3 {
+        return unknown(state);
+    }
+    attachment(state, r, follow::follow(ring, state.readers[r]))
+}
+
+// An event's bytes stand at the front of the output buffer.
+fn reading(answer: Reading, out: &[u8]) {
+    match answer {
+        Reading::Event(size) => {
+            say::number(b"event ", size);
+            say::words(b" bytes ");
+            if size <= out.len() as u64 {
+                let end = size as usize;
+                say::bytes(&out[0..end]);
+            }
+        }
+        Reading::Empty => say::words(b"empty"),
+        Reading::Moved => say::words(b"moved"),
+        Reading::Refused(refused) => say::refusal(refused),
+    }
+}
+
+pub fn read(line: &[u8], state: State, ring: &[u8], out: &mut [u8]) -> State {
+    let r = number_to(field(line, 2), 3);
+    let n = number_to(field(line, 3), 40960);
+    if r > 3 {
+        return unknown(state);
+    }
+    if n > out.len() {
+        return unknown(state);
+    }
+    let answered = reader::read::read(ring, state.readers[r], &mut out[0..n]);
+    let answer = answered.answer;
+    reading(answer, out);
+    say::reader(answered.reader);
+    with_reader(state, r, answered.reader)
+}
+
+fn exchange(answer: swap::Outcome) {
+    match answer {
+        swap::Outcome::Done => say::words(b"done"),
+        swap::Outcome::Wake => say::words(b"wake"),
+        swap::Outcome::Refused(refused) => say::refusal(refused),
+    }
+}
+
+pub fn swap(line: &[u8], state: State, old: &mut [u8], new: &mut [u8]) -> State {
+    let w = number_to(field(line, 3), 3);
+    if w > 3 {
+        return unknown(state);
+    }
+    let swapped = swap::swap::swap(old, new, state.writers[w]);
+    let outcome = swapped.outcome;
+    exchange(outcome);
+    say::writer(swapped.writer);
+    with_writer(state, w, swapped.writer)
+}

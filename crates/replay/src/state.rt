@@ -1,0 +1,61 @@
+// What a script plays on beside the bytes of its buffers.
+use crate::say::words;
+use reader::Reader;
+use writer::Writer;
+ghost use Prim.Native.Nat.{_≤_};
+
+// How many bytes of each buffer are in use, and the records.
+pub struct State {
+    pub lengths: [usize; 4],
+    pub writers: [Writer; 4],
+    pub readers: [Reader; 4],
+}
+
+pub fn fresh() -> State {
+    let writer = Writer {
+        last: 0,
+        dropped: 0,
+        overwritten: 0,
+    };
+    let reader = Reader {
+        read_pos: 0,
+        last: 0,
+        handed: 0,
+        generation: 0,
+    };
+    State {
+        lengths: [0; 4],
+        writers: [writer; 4],
+        readers: [reader; 4],
+    }
+}
+
+pub fn with_length(state: State, b: usize, length: usize) -> State
+    requires { ⌜ b ≤ 3 ⌝ }
+{
+    let mut next = state;
+    next.lengths[b] = length;
+    next
+}
+
+pub fn with_writer(state: State, w: usize, writer: Writer) -> State
+    requires { ⌜ w ≤ 3 ⌝ }
+{
+    let mut next = state;
+    next.writers[w] = writer;
+    next
+}
+
+pub fn with_reader(state: State, r: usize, reader: Reader) -> State
+    requires { ⌜ r ≤ 3 ⌝ }
+{
+    let mut next = state;
+    next.readers[r] = reader;
+    next
+}
+
+// A line that is no command, or has a wrong field, changes nothing.
+pub fn unknown(state: State) -> State {
+    words(b"unknown\n");
+    state
+}

@@ -39,5 +39,10 @@ else
     wrong=$((wrong + 1))
     echo 'the stored set: DIFFERENT'
 fi
+# the gate plays one of the stored scripts: it has to be the stored one still
+input=$tests/../crates/replay
+if ! cmp "$input/stdin" "$tests/second/stored/mixed.script" || ! cmp "$input/stdout" "$tests/second/stored/mixed.answers"; then
+    wrong=$((wrong + 1))
+fi
 echo "replay: $compared scripts compared, $wrong differences"
 [ "$wrong" -eq 0 ] && [ "$compared" -eq 7 ]

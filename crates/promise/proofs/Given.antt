@@ -1,13 +1,43 @@
 -- At most one outcome is to be given to a call, so the one that is given is given exactly then.
-use Prim.Native.Nat.{ℕ}
+use Prim.Native.Nat.{ℕ, _≤_}
 use native.Mathlib.Omega.{arith}
 use mathlib.Core.Path.{_≡_, refl, sym, ap, _∙_, subst}
 use mathlib.Core.Logic.{inl, inr, _↔_}
-use mathlib.Core.Bool.{Bool, true, false}
+use mathlib.Core.Bool.{Bool, true, false, cond}
+use lib.Dec.{eqb}
+use Rattle.table.specs.Refusals.{paperNumber}
 use Rattle.table.specs.declared.Refusal.{Refusal}
+use Rattle.table.specs.declared.Refusal.the-variants as refusal
 use Rattle.emit.specs.declared.Outcome.{Outcome}
 use Rattle.emit.specs.declared.Outcome.the-variants.{Done, Wake, Dropped, Refused}
 use Rattle.promise.specs.Demand2.{Acceptable, Given}
+
+-- of the refusals, the numbers 8 and 9 each mean one
+abbrev eighthOrNinth : ℕ → Refusal
+eighthOrNinth n = cond (eqb n 8) refusal.Spent refusal.Far
+
+known : (r : Refusal) → 8 ≤ paperNumber r → paperNumber r ≤ 9 → r ≡ eighthOrNinth (paperNumber r)
+known refusal.Short low high = absurd (omega arith)
+known refusal.Magic low high = absurd (omega arith)
+known refusal.Version low high = absurd (omega arith)
+known refusal.Layout low high = absurd (omega arith)
+known refusal.Length low high = absurd (omega arith)
+known refusal.Position low high = absurd (omega arith)
+known refusal.Writer low high = absurd (omega arith)
+known refusal.Spent low high = refl
+known refusal.Far low high = refl
+known (refusal.Damaged position) low high = absurd (omega arith)
+known refusal.Disagree low high = absurd (omega arith)
+known refusal.NoRoom low high = absurd (omega arith)
+known refusal.Reader low high = absurd (omega arith)
+known refusal.Out low high = absurd (omega arith)
+known refusal.Generation low high = absurd (omega arith)
+known refusal.Size low high = absurd (omega arith)
+known refusal.Record low high = absurd (omega arith)
+
+same-number : (r q : Refusal) (n : ℕ) → 8 ≤ n → n ≤ 9 → paperNumber r ≡ n → paperNumber q ≡ n → r ≡ q
+same-number r q n low high e f =
+    known r (omega arith) (omega arith) ∙ ap eighthOrNinth (e ∙ sym f) ∙ sym (known q (omega arith) (omega arith))
 
 module _ (capacity last write size : ℕ) (waits : Bool) where
   differ : waits ≡ true → waits ≡ false → ⊥
@@ -22,10 +52,10 @@ module _ (capacity last write size : ℕ) (waits : Bool) where
   not-dropped-refused r d (inr q) = omega (arith, d .1, q .2)
 
   one-refusal : (r q : Refusal) → Given capacity last write size waits (Refused r) → Given capacity last write size waits (Refused q) → r ≡ q
-  one-refusal r q (inl a) (inl b) = a .0 ∙ sym (b .0)
+  one-refusal r q (inl a) (inl b) = same-number r q 8 (omega arith) (omega arith) (a .0) (b .0)
   one-refusal r q (inl a) (inr b) = absurd (b .1 (a .1))
   one-refusal r q (inr a) (inl b) = absurd (a .1 (b .1))
-  one-refusal r q (inr a) (inr b) = a .0 ∙ sym (b .0)
+  one-refusal r q (inr a) (inr b) = same-number r q 9 (omega arith) (omega arith) (a .0) (b .0)
 
   pub given-one : (a b : Outcome) → Given capacity last write size waits a → Given capacity last write size waits b → a ≡ b
   given-one Done Done f g = refl

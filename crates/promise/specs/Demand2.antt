@@ -15,7 +15,7 @@ use mathlib.Core.Bool.{Bool, true, false}
 use mathlib.Core.List.{List, [], _∷_, _++_, map}
 use lib.ListN.{length, getD}
 use Rattle.table.specs.declared.Refusal.{Refusal}
-use Rattle.table.specs.declared.Refusal.the-variants.{Spent, Far}
+use Rattle.table.specs.Refusals.{paperNumber}
 use Rattle.capacity.specs.Capacity.{allowed}
 use Rattle.page.specs.Page.{pageOf, opened}
 use Rattle.page.specs.Wake.{wakes}
@@ -48,8 +48,8 @@ Given capacity last write size waits Done = (waits ≡ false) × Acceptable capa
 Given capacity last write size waits Wake = (waits ≡ true) × Acceptable capacity last write size
 Given capacity last write size waits Dropped = (last ≢ 2 ^ 64 - 1) × (capacity / 2 < size)
 Given capacity last write size waits (Refused r) =
-    ((r ≡ Spent) × (last ≡ 2 ^ 64 - 1))
-    ⊎ ((r ≡ Far) × (last ≢ 2 ^ 64 - 1) × (size ≤ capacity / 2) × (2 ^ 62 < write + size))
+    ((paperNumber r ≡ 8) × (last ≡ 2 ^ 64 - 1))
+    ⊎ ((paperNumber r ≡ 9) × (last ≢ 2 ^ 64 - 1) × (size ≤ capacity / 2) × (2 ^ 62 < write + size))
 
 -- the consumer waits: need_wake is the first byte of its page
 abbrev pub waiting : Turn → Bool

@@ -3,17 +3,17 @@ use Prim.Native.Nat.{ℕ}
 use mathlib.Core.Path.{_≡_, refl, sym, ap, _∙_}
 use mathlib.Core.List.{List}
 use lib.ListN.{length}
-use Rattle.table.specs.declared.Refusal.the-variants.{Record}
-use Rattle.table.proofs.Laws.{stops, passes}
-use Rattle.table.proofs.Tests.{unequal, equal}
-use Rattle.word.specs.Fields.{putAll}
-use Rattle.writer.specs.declared.Writer.{Writer}
-use Rattle.reader.specs.Read.{readOut}
-use Rattle.reader.specs.declared.Reader.{Reader}
-use Rattle.reader.specs.declared.Answered.{Answered}
-use Rattle.swap.specs.Swap.{exchange}
-use Rattle.swap.specs.declared.Swapped.{Swapped}
-use Rattle.emit.specs.declared.Emitted.{Emitted}
+use Rattle.table_rules.specs.declared.Refusal.the-variants.{Record}
+use Rattle.table_rules.proofs.Laws.{stops, passes}
+use Rattle.table_rules.proofs.Tests.{unequal, equal}
+use Rattle.word_rules.specs.Fields.{putAll}
+use Rattle.writer_rules.specs.declared.Writer.{Writer}
+use Rattle.reader_rules.specs.Read.{readOut}
+use Rattle.reader_rules.specs.declared.Reader.{Reader}
+use Rattle.reader_rules.specs.declared.Answered.{Answered}
+use Rattle.swap_rules.specs.Swap.{exchange}
+use Rattle.swap_rules.specs.declared.Swapped.{Swapped}
+use Rattle.emit_rules.specs.declared.Emitted.{Emitted}
 use Rattle.console.specs.Console.{recordOf, recordRows, recordAfter, emittedNumber}
 use Rattle.bench_calls.specs.Calls.{readerOf, readerFields, readingNumber, Read, refusedRead, answeredRead, readerRows, readCall, asEmitted, Exchanged, refusedSwap, answeredSwap, swapCall}
 

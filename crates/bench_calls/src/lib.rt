@@ -6,10 +6,10 @@ use console::answer::emitted_number;
 use console::answer::refusal_number;
 use console::record_bytes::keep;
 use console::record_bytes::read;
-use emit::Emitted;
-use emit::Outcome;
-use reader::Reading;
-use table::Refusal;
+use emit_rules::Emitted;
+use emit_rules::Outcome;
+use reader_rules::Reading;
+use table_rules::Refusal;
 ghost use mathlib.Core.Path.{_≡_};
 ghost use Rattle.bench_calls.specs.Calls.{readingNumber, sameOutcome, readCall, swapCall};
 
@@ -27,13 +27,13 @@ fn reading_number(reading: Reading) -> u32
 }
 
 // A swap answers as an emission does, so that its number and its record go the same way.
-fn same_outcome(outcome: swap::Outcome) -> Outcome
+fn same_outcome(outcome: swap_rules::Outcome) -> Outcome
     ensures { λ r. ⌜ r ≡ sameOutcome outcome ⌝ }
 {
     match outcome {
-        swap::Outcome::Done => Outcome::Done,
-        swap::Outcome::Wake => Outcome::Wake,
-        swap::Outcome::Refused(refusal) => Outcome::Refused(refusal),
+        swap_rules::Outcome::Done => Outcome::Done,
+        swap_rules::Outcome::Wake => Outcome::Wake,
+        swap_rules::Outcome::Refused(refusal) => Outcome::Refused(refusal),
     }
 }
 

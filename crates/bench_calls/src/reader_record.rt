@@ -1,10 +1,10 @@
 // The reader's record in 32 bytes: read_pos, last, handed, generation.
-use reader::Reader;
+use reader_rules::Reader;
 use word::number::get64;
 use word::number::put64;
 ghost use mathlib.Core.Path.{_≡_};
 ghost use lib.ListN.{length};
-ghost use Rattle.word.specs.Fields.{putAll};
+ghost use Rattle.word_rules.specs.Fields.{putAll};
 ghost use Rattle.bench_calls.specs.Calls.{readerOf, readerFields};
 
 pub fn reader_at(bytes: &[u8]) -> Reader

@@ -6,15 +6,15 @@ use mathlib.Core.Logic.{_≢_}
 use mathlib.Core.Bool.{true}
 use mathlib.Core.List.{List, [], _∷_, map}
 use lib.ListN.{length}
-use Rattle.table.specs.declared.Refusal.{Refusal}
-use Rattle.capacity.specs.Capacity.{allowed}
-use Rattle.page.specs.Page.{pageOf}
-use Rattle.create.specs.Create.{afterCreate}
-use Rattle.emit.specs.declared.Outcome.{Outcome}
-use Rattle.emit.specs.declared.Outcome.the-variants.{Done, Wake, Dropped, Refused}
-use Rattle.reader.specs.declared.Reader.{Reader}
-use Rattle.reader.specs.declared.Attached.{Attached}
-use Rattle.reader.proofs.Attaching.{attach-done}
+use Rattle.table_rules.specs.declared.Refusal.{Refusal}
+use Rattle.capacity_rules.specs.Capacity.{allowed}
+use Rattle.page_rules.specs.Page.{pageOf}
+use Rattle.create_rules.specs.Create.{afterCreate}
+use Rattle.emit_rules.specs.declared.Outcome.{Outcome}
+use Rattle.emit_rules.specs.declared.Outcome.the-variants.{Done, Wake, Dropped, Refused}
+use Rattle.reader_rules.specs.declared.Reader.{Reader}
+use Rattle.reader_rules.specs.declared.Attached.{Attached}
+use Rattle.reader_rules.proofs.Attaching.{attach-done}
 use Rattle.history.specs.Runs.{EndPart}
 use Rattle.history.specs.Ring.{Answer, Emitted, Ring, bytes, emit}
 use Rattle.history.specs.Reading.{unread}

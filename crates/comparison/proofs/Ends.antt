@@ -5,10 +5,10 @@ use mathlib.Core.Path.{_≡_, refl, sym, ap, ap₂, _∙_, subst}
 use mathlib.Core.List.{List, [], _∷_}
 use lib.ListN.{length, take, drop, replicate, length-replicate}
 use lib.Seq.{take-append-seam}
-use Rattle.reader.specs.Read.{Outcome}
-use Rattle.reader.specs.declared.Reader.{Reader}
-use Rattle.reader.specs.declared.Reading.{Reading}
-use Rattle.reader.specs.declared.Reading.the-variants.{Event, Empty, Moved, Refused}
+use Rattle.reader_rules.specs.Read.{Outcome}
+use Rattle.reader_rules.specs.declared.Reader.{Reader}
+use Rattle.reader_rules.specs.declared.Reading.{Reading}
+use Rattle.reader_rules.specs.declared.Reading.the-variants.{Event, Empty, Moved, Refused}
 use Rattle.comparison.specs.Emptying.{Lent, Empties, OneEnd}
 
 -- something can always be lent

@@ -4,8 +4,8 @@ use native.Mathlib.Omega.{arith}
 use mathlib.Core.Path.{_≡_, refl, sym, ap, ap₂, _∙_, subst, subst₂}
 use mathlib.Core.List.{List, [], _∷_, _++_, map}
 use lib.ListN.{length}
-use Rattle.page.specs.Page.{pageOf}
-use Rattle.reader.specs.declared.Reader.{Reader}
+use Rattle.page_rules.specs.Page.{pageOf}
+use Rattle.reader_rules.specs.declared.Reader.{Reader}
 use Rattle.history.specs.Runs.{LongestRun}
 use Rattle.history.specs.Ring.{Numbered, Ring, newest, given, bytes, write, emit}
 use Rattle.history.specs.Reading.{Following, unread}

@@ -4,11 +4,11 @@ use Prim.Native.Nat.{ℕ, _+_, _≤_}
 use mathlib.Core.Path.{_≡_}
 use mathlib.Core.List.{List, [], _∷_, _++_, map}
 use lib.ListN.{length, drop}
-use Rattle.create.specs.Create.{afterCreate}
-use Rattle.reader.specs.Attach.{attached}
-use Rattle.reader.specs.Read.{Outcome, readOut}
-use Rattle.reader.specs.declared.Reader.{Reader}
-use Rattle.reader.specs.declared.Reading.the-variants as reading
+use Rattle.create_rules.specs.Create.{afterCreate}
+use Rattle.reader_rules.specs.Attach.{attached}
+use Rattle.reader_rules.specs.Read.{Outcome, readOut}
+use Rattle.reader_rules.specs.declared.Reader.{Reader}
+use Rattle.reader_rules.specs.declared.Reading.the-variants as reading
 use Rattle.history.specs.Runs.{LongestRun}
 use Rattle.history.specs.Ring.{Numbered, newest}
 use Rattle.promise.specs.Bytes.{Event, encode, State, consumed, Turn, emitted, left, acceptedOf}

@@ -1,11 +1,11 @@
 // The one number that a call answers: 0 done, 1 to 17 refused, 20 DROPPED, 21 done with wake.
-use create::Created;
-use emit::Outcome;
-use inspect::Inspected;
-use table::Refusal;
+use create_rules::Created;
+use emit_rules::Outcome;
+use inspect_rules::Inspected;
 use table::paper_number;
+use table_rules::Refusal;
 ghost use mathlib.Core.Path.{_≡_};
-ghost use Rattle.table.specs.Refusals.{paperNumber};
+ghost use Rattle.table_rules.specs.Refusals.{paperNumber};
 ghost use Rattle.console.specs.Console.{createdNumber, inspectedNumber, emittedNumber};
 
 pub fn refusal_number(refusal: Refusal) -> u32

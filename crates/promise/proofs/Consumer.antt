@@ -5,15 +5,15 @@ use mathlib.Core.Path.{_≡_, ap, _∙_}
 use mathlib.Core.List.{List, _++_}
 use lib.ListN.{length, take, drop, getD, length-append, length-drop, List·getD-append}
 use lib.Seq.{length-take-le, getD-take, getD-drop, getD-append-add}
-use Rattle.word.specs.Number.{number}
-use Rattle.word.proofs.Reading.{number-same, number-one}
-use Rattle.page.specs.Page.{pageOf}
-use Rattle.page.specs.Sound.{Sound}
-use Rattle.page.proofs.Sound.{sound-length}
-use Rattle.page.proofs.Alike.{alike-below, resound}
-use Rattle.region.proofs.Bytes.{bytes-same}
-use Rattle.look.specs.Live.{rest, live}
-use Rattle.writer.specs.declared.Writer.{Writer}
+use Rattle.word_rules.specs.Number.{number}
+use Rattle.word_rules.proofs.Reading.{number-same, number-one}
+use Rattle.page_rules.specs.Page.{pageOf}
+use Rattle.page_rules.specs.Sound.{Sound}
+use Rattle.page_rules.proofs.Sound.{sound-length}
+use Rattle.page_rules.proofs.Alike.{alike-below, resound}
+use Rattle.region_rules.proofs.Bytes.{bytes-same}
+use Rattle.look_rules.specs.Live.{rest, live}
+use Rattle.writer_rules.specs.declared.Writer.{Writer}
 use Rattle.history.specs.Ring.{Ring}
 use Rattle.promise.specs.Bytes.{Event, consumed}
 use Rattle.promise.specs.Holds.{Holds}

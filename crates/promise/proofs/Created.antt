@@ -5,18 +5,18 @@ use mathlib.Core.Path.{_≡_, refl, sym, ap, _∙_, subst}
 use mathlib.Core.Bool.{true, not}
 use mathlib.Core.List.{List, [], map}
 use lib.ListN.{length}
-use Rattle.capacity.specs.Capacity.{allowed}
-use Rattle.page.specs.Page.{pageOf}
-use Rattle.page.specs.Sound.{Sound}
-use Rattle.page.specs.Fresh.{blank}
-use Rattle.page.specs.declared.Page.{Page}
-use Rattle.page.proofs.Fresh.{blank-sound}
-use Rattle.region.specs.Region.{bytesAt}
-use Rattle.event.specs.Run.{joined}
-use Rattle.look.specs.Live.{rest, live}
-use Rattle.create.specs.Create.{wrongSize, created, afterCreate}
-use Rattle.create.specs.declared.Created.the-variants as creates
-use Rattle.create.proofs.Laws.{size-passed}
+use Rattle.capacity_rules.specs.Capacity.{allowed}
+use Rattle.page_rules.specs.Page.{pageOf}
+use Rattle.page_rules.specs.Sound.{Sound}
+use Rattle.page_rules.specs.Fresh.{blank}
+use Rattle.page_rules.specs.declared.Page.{Page}
+use Rattle.page_rules.proofs.Fresh.{blank-sound}
+use Rattle.region_rules.specs.Region.{bytesAt}
+use Rattle.event_rules.specs.Run.{joined}
+use Rattle.look_rules.specs.Live.{rest, live}
+use Rattle.create_rules.specs.Create.{wrongSize, created, afterCreate}
+use Rattle.create_rules.specs.declared.Created.the-variants as creates
+use Rattle.create_rules.proofs.Laws.{size-passed}
 use Rattle.history.specs.Ring.{fresh}
 use Rattle.history.proofs.Emission.{fresh-holds}
 use Rattle.promise.specs.Bytes.{size, encode}

@@ -4,9 +4,9 @@ use native.Mathlib.Omega.{arith}
 use mathlib.Core.Path.{_≡_, refl, sym, ap, ap₂, _∙_, subst, subst₂}
 use mathlib.Core.List.{List, [], _∷_, _++_, map, tail}
 use lib.ListN.{length, getD}
-use Rattle.page.specs.Page.{pageOf}
-use Rattle.event.specs.Run.{joined}
-use Rattle.emit.specs.declared.Outcome.{Outcome}
+use Rattle.page_rules.specs.Page.{pageOf}
+use Rattle.event_rules.specs.Run.{joined}
+use Rattle.emit_rules.specs.declared.Outcome.{Outcome}
 use Rattle.history.specs.Runs.{latest}
 use Rattle.history.specs.Ring.{Numbered, write}
 use Rattle.history.specs.Calls.{Call, uses, used, droppedOf, accepted}

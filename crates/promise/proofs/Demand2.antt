@@ -5,9 +5,9 @@ use mathlib.Core.Path.{_≡_, refl, sym, ap, ap₂, _∙_, subst, subst₂}
 use mathlib.Core.Bool.{Bool}
 use mathlib.Core.List.{List, [], _∷_, _++_, map}
 use lib.ListN.{length}
-use Rattle.page.specs.Page.{pageOf}
-use Rattle.page.specs.Wake.{wakes}
-use Rattle.page.proofs.Sound.{sound-length}
+use Rattle.page_rules.specs.Page.{pageOf}
+use Rattle.page_rules.specs.Wake.{wakes}
+use Rattle.page_rules.proofs.Sound.{sound-length}
 use Rattle.history.specs.Runs.{LongestRun}
 use Rattle.history.specs.Ring.{Numbered, Ring, given, bytes, write, emit}
 use Rattle.history.specs.Calls.{Call, uses, used, droppedOf, accepted, call, calls}

@@ -5,14 +5,14 @@ use mathlib.Core.Path.{_≡_, refl, sym, ap, ap₂, _∙_, subst}
 use mathlib.Core.List.{List, [], _∷_, _++_, map}
 use lib.ListN.{length, take, drop, length-map}
 use lib.Seq.{take-append-seam, drop-at}
-use Rattle.event.specs.Event.{Fit, sequence}
-use Rattle.event.specs.Run.{joined, Each, Rising, Whole, lastOf}
-use Rattle.event.specs.Walk.{walkFrom, overflow}
-use Rattle.event.specs.declared.Walk.the-variants.{Room}
-use Rattle.event.proofs.Made.{made-length, made-says}
-use Rattle.event.proofs.Front.{made-one, length-joined, joined-append, joined-more}
-use Rattle.event.proofs.Overflow.{overflow-none, overflow-more, walk-whole}
-use Rattle.inspect.specs.Inspect.{firstOf}
+use Rattle.event_rules.specs.Event.{Fit, sequence}
+use Rattle.event_rules.specs.Run.{joined, Each, Rising, Whole, lastOf}
+use Rattle.event_rules.specs.Walk.{walkFrom, overflow}
+use Rattle.event_rules.specs.declared.Walk.the-variants.{Room}
+use Rattle.event_rules.proofs.Made.{made-length, made-says}
+use Rattle.event_rules.proofs.Front.{made-one, length-joined, joined-append, joined-more}
+use Rattle.event_rules.proofs.Overflow.{overflow-none, overflow-more, walk-whole}
+use Rattle.inspect_rules.specs.Inspect.{firstOf}
 use Rattle.history.specs.Runs.{total, latest, older}
 use Rattle.history.specs.Ring.{Numbered, newest, bytes}
 use Rattle.history.specs.Ring.{Rising as RisingNumbers}

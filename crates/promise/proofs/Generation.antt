@@ -6,26 +6,26 @@ use mathlib.Core.Logic.{inl}
 use mathlib.Core.Bool.{Bool, true, false, cond}
 use mathlib.Core.List.{List, [], _∷_}
 use lib.ListN.{length}
-use Rattle.table.specs.Table.{first}
-use Rattle.table.specs.declared.Refusal.the-variants as refusal
-use Rattle.word.specs.Number.{number}
-use Rattle.word.proofs.Reading.{number-same}
-use Rattle.word.proofs.Fields.{beside}
-use Rattle.page.specs.Page.{pageOf, pageRows, positions}
-use Rattle.page.specs.Sound.{Sound}
-use Rattle.page.specs.declared.Page.{Page}
-use Rattle.page.proofs.Sound.{sound-length}
-use Rattle.page.proofs.Wake.{notified-number}
-use Rattle.region.specs.Region.{storeAt}
-use Rattle.region.proofs.Storing.{store-number}
-use Rattle.event.specs.Walk.{walkFrom}
-use Rattle.event.specs.declared.Walk.{Walk}
-use Rattle.event.specs.declared.Walk.the-variants as walks
-use Rattle.look.specs.Live.{live}
-use Rattle.writer.specs.declared.Writer.{Writer}
-use Rattle.emit.specs.Emit.{After, refuse, writerRows, tooLarge, dropped, tooFar, disagrees, eventOf, stored, accepted, ended, placed, emittedOn, emission}
-use Rattle.emit.specs.declared.Label.{Label}
-use Rattle.table.proofs.Laws.{answers}
+use Rattle.table_rules.specs.Table.{first}
+use Rattle.table_rules.specs.declared.Refusal.the-variants as refusal
+use Rattle.word_rules.specs.Number.{number}
+use Rattle.word_rules.proofs.Reading.{number-same}
+use Rattle.word_rules.proofs.Fields.{beside}
+use Rattle.page_rules.specs.Page.{pageOf, pageRows, positions}
+use Rattle.page_rules.specs.Sound.{Sound}
+use Rattle.page_rules.specs.declared.Page.{Page}
+use Rattle.page_rules.proofs.Sound.{sound-length}
+use Rattle.page_rules.proofs.Wake.{notified-number}
+use Rattle.region_rules.specs.Region.{storeAt}
+use Rattle.region_rules.proofs.Storing.{store-number}
+use Rattle.event_rules.specs.Walk.{walkFrom}
+use Rattle.event_rules.specs.declared.Walk.{Walk}
+use Rattle.event_rules.specs.declared.Walk.the-variants as walks
+use Rattle.look_rules.specs.Live.{live}
+use Rattle.writer_rules.specs.declared.Writer.{Writer}
+use Rattle.emit_rules.specs.Emit.{After, refuse, writerRows, tooLarge, dropped, tooFar, disagrees, eventOf, stored, accepted, ended, placed, emittedOn, emission}
+use Rattle.emit_rules.specs.declared.Label.{Label}
+use Rattle.table_rules.proofs.Laws.{answers}
 use Rattle.history.specs.Ring.{Ring, emit}
 use Rattle.promise.specs.Bytes.{Event, size, labelOf, State, Turn, consumed, emitted, left, after}
 use Rattle.promise.specs.Holds.{Holds}

@@ -5,11 +5,11 @@ use mathlib.Core.Path.{_≡_, refl, sym, ap, _∙_, subst}
 use mathlib.Core.Logic.{inl, inr, _↔_}
 use mathlib.Core.Bool.{Bool, true, false, cond}
 use lib.Dec.{eqb}
-use Rattle.table.specs.Refusals.{paperNumber}
-use Rattle.table.specs.declared.Refusal.{Refusal}
-use Rattle.table.specs.declared.Refusal.the-variants as refusal
-use Rattle.emit.specs.declared.Outcome.{Outcome}
-use Rattle.emit.specs.declared.Outcome.the-variants.{Done, Wake, Dropped, Refused}
+use Rattle.table_rules.specs.Refusals.{paperNumber}
+use Rattle.table_rules.specs.declared.Refusal.{Refusal}
+use Rattle.table_rules.specs.declared.Refusal.the-variants as refusal
+use Rattle.emit_rules.specs.declared.Outcome.{Outcome}
+use Rattle.emit_rules.specs.declared.Outcome.the-variants.{Done, Wake, Dropped, Refused}
 use Rattle.promise.specs.Demand2.{Acceptable, Given}
 
 -- of the refusals, the numbers 8 and 9 each mean one

@@ -5,20 +5,20 @@ use mathlib.Core.Path.{_≡_, sym, ap, _∙_, subst}
 use mathlib.Core.Bool.{false}
 use mathlib.Core.List.{List, map}
 use lib.ListN.{length, length-map}
-use Rattle.capacity.proofs.Laws.{allowed-range}
-use Rattle.page.specs.Page.{pageOf, opened}
-use Rattle.page.specs.declared.Page.{Page}
-use Rattle.page.specs.declared.Opened.the-variants as opens
-use Rattle.page.proofs.Sound.{opens-sound}
-use Rattle.event.specs.Run.{Whole, lastOf}
-use Rattle.writer.specs.Writer.{wrongWriter}
-use Rattle.writer.specs.declared.Writer.{Writer}
-use Rattle.writer.proofs.Laws.{not-wrong}
-use Rattle.inspect.specs.Inspect.{firstOf, summary, inspected}
-use Rattle.inspect.specs.declared.Survey.{Survey}
-use Rattle.inspect.specs.declared.Inspected.the-variants as answers
-use Rattle.inspect.proofs.Surveys.{survey-all}
-use Rattle.inspect.proofs.Answers.{inspected-whole}
+use Rattle.capacity_rules.proofs.Laws.{allowed-range}
+use Rattle.page_rules.specs.Page.{pageOf, opened}
+use Rattle.page_rules.specs.declared.Page.{Page}
+use Rattle.page_rules.specs.declared.Opened.the-variants as opens
+use Rattle.page_rules.proofs.Sound.{opens-sound}
+use Rattle.event_rules.specs.Run.{Whole, lastOf}
+use Rattle.writer_rules.specs.Writer.{wrongWriter}
+use Rattle.writer_rules.specs.declared.Writer.{Writer}
+use Rattle.writer_rules.proofs.Laws.{not-wrong}
+use Rattle.inspect_rules.specs.Inspect.{firstOf, summary, inspected}
+use Rattle.inspect_rules.specs.declared.Survey.{Survey}
+use Rattle.inspect_rules.specs.declared.Inspected.the-variants as answers
+use Rattle.inspect_rules.proofs.Surveys.{survey-all}
+use Rattle.inspect_rules.proofs.Answers.{inspected-whole}
 use Rattle.history.specs.Ring.{Ring, newest}
 use Rattle.promise.specs.Bytes.{Event, encode, oldest}
 use Rattle.promise.specs.Holds.{Holds}

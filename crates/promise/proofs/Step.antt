@@ -6,19 +6,19 @@ use mathlib.Core.Logic.{inl, inr, _≢_}
 use mathlib.Core.Bool.{Bool, true, false}
 use mathlib.Core.List.{List, _++_}
 use lib.ListN.{length, drop}
-use Rattle.table.specs.declared.Refusal.the-variants.{Spent, Far}
-use Rattle.page.specs.Page.{pageOf}
-use Rattle.page.specs.Wake.{wakes}
-use Rattle.page.specs.declared.Page.{Page}
-use Rattle.event.specs.Event.{eventBytes}
-use Rattle.event.specs.Walk.{walkFrom}
-use Rattle.event.specs.declared.Walk.the-variants.{Room}
-use Rattle.look.specs.Live.{live}
-use Rattle.writer.specs.Writer.{wrongWriter}
-use Rattle.writer.specs.declared.Writer.{Writer}
-use Rattle.emit.specs.Emit.{After, refuse, dropped, eventOf, told, accepted, emittedOn, emission}
-use Rattle.emit.proofs.Laws.{event-length}
-use Rattle.emit.proofs.Cases.{on-sound, spent, is-dropped, too-far, is-placed, agreed}
+use Rattle.table_rules.specs.declared.Refusal.the-variants.{Spent, Far}
+use Rattle.page_rules.specs.Page.{pageOf}
+use Rattle.page_rules.specs.Wake.{wakes}
+use Rattle.page_rules.specs.declared.Page.{Page}
+use Rattle.event_rules.specs.Event.{eventBytes}
+use Rattle.event_rules.specs.Walk.{walkFrom}
+use Rattle.event_rules.specs.declared.Walk.the-variants.{Room}
+use Rattle.look_rules.specs.Live.{live}
+use Rattle.writer_rules.specs.Writer.{wrongWriter}
+use Rattle.writer_rules.specs.declared.Writer.{Writer}
+use Rattle.emit_rules.specs.Emit.{After, refuse, dropped, eventOf, told, accepted, emittedOn, emission}
+use Rattle.emit_rules.proofs.Laws.{event-length}
+use Rattle.emit_rules.proofs.Cases.{on-sound, spent, is-dropped, too-far, is-placed, agreed}
 use Rattle.history.specs.Runs.{total, latest, older}
 use Rattle.history.specs.Ring.{Numbered, Ring, Done, Dropped, Refused, Emitted, bytes, write, dropping, new, storing, emit}
 use Rattle.history.specs.Holding.{Holding}
@@ -29,7 +29,7 @@ use Rattle.promise.specs.Bytes.{Event, size, encode, labelOf, answerOf}
 use Rattle.promise.specs.Holds.{Holds}
 use Rattle.promise.specs.Demand2.{Acceptable, Given}
 use Rattle.promise.proofs.Encoding.{joined-one, drop-older, walk-older}
-use Rattle.emit.proofs.Stored.{stored-cpu, stored-capacity, stored-write, stored-tail, stored-sound, stored-live}
+use Rattle.emit_rules.proofs.Stored.{stored-cpu, stored-capacity, stored-write, stored-tail, stored-sound, stored-live}
 use Rattle.promise.proofs.Holds.{holds-counted, holds-whole}
 
 -- what an emission leaves, beside what it leaves on the ring without bytes; `waits` says whether the consumer does

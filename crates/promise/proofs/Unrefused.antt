@@ -4,8 +4,8 @@ use native.Mathlib.Omega.{arith}
 use mathlib.Core.Path.{_≡_, sym, subst}
 use mathlib.Core.Logic.{inl, inr}
 use mathlib.Core.List.{List, [], _∷_, _++_, append-nil}
-use Rattle.table.specs.declared.Refusal.{Refusal}
-use Rattle.emit.specs.declared.Outcome.the-variants.{Refused}
+use Rattle.table_rules.specs.declared.Refusal.{Refusal}
+use Rattle.emit_rules.specs.declared.Outcome.the-variants.{Refused}
 use Rattle.history.specs.Ring.{Numbered, Answer, write, emit}
 use Rattle.history.specs.Ring as answers
 use Rattle.history.specs.Calls.{uses, accepts}

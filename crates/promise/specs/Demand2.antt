@@ -14,21 +14,21 @@ use mathlib.Core.Logic.{_⊎_, _≢_, _↔_}
 use mathlib.Core.Bool.{Bool, true, false}
 use mathlib.Core.List.{List, [], _∷_, _++_, map}
 use lib.ListN.{length, getD}
-use Rattle.table.specs.declared.Refusal.{Refusal}
-use Rattle.table.specs.Refusals.{paperNumber}
-use Rattle.capacity.specs.Capacity.{allowed}
-use Rattle.page.specs.Page.{pageOf, opened}
-use Rattle.page.specs.Wake.{wakes}
-use Rattle.page.specs.declared.Opened.the-variants as opens
-use Rattle.event.specs.Run.{joined}
-use Rattle.look.specs.Live.{live}
-use Rattle.create.specs.Create.{created, afterCreate}
-use Rattle.create.specs.declared.Created.the-variants as creates
-use Rattle.emit.specs.declared.Outcome.{Outcome}
-use Rattle.emit.specs.declared.Outcome.the-variants.{Done, Wake, Dropped, Refused}
-use Rattle.inspect.specs.Inspect.{inspected}
-use Rattle.inspect.specs.declared.Inspected.the-variants.{Whole}
-use Rattle.writer.specs.declared.Writer.{Writer}
+use Rattle.table_rules.specs.declared.Refusal.{Refusal}
+use Rattle.table_rules.specs.Refusals.{paperNumber}
+use Rattle.capacity_rules.specs.Capacity.{allowed}
+use Rattle.page_rules.specs.Page.{pageOf, opened}
+use Rattle.page_rules.specs.Wake.{wakes}
+use Rattle.page_rules.specs.declared.Opened.the-variants as opens
+use Rattle.event_rules.specs.Run.{joined}
+use Rattle.look_rules.specs.Live.{live}
+use Rattle.create_rules.specs.Create.{created, afterCreate}
+use Rattle.create_rules.specs.declared.Created.the-variants as creates
+use Rattle.emit_rules.specs.declared.Outcome.{Outcome}
+use Rattle.emit_rules.specs.declared.Outcome.the-variants.{Done, Wake, Dropped, Refused}
+use Rattle.inspect_rules.specs.Inspect.{inspected}
+use Rattle.inspect_rules.specs.declared.Inspected.the-variants.{Whole}
+use Rattle.writer_rules.specs.declared.Writer.{Writer}
 use Rattle.history.specs.Runs.{total, LongestRun}
 use Rattle.history.specs.Ring.{Numbered, Ring, newest, fresh, write}
 use Rattle.history.specs.Calls.{uses, used, droppedOf}

@@ -3,11 +3,11 @@
 use Prim.Native.Nat.{ℕ, _^_, _<_}
 use mathlib.Core.Path.{_≡_}
 use mathlib.Core.List.{List, map}
-use Rattle.page.specs.Page.{pageOf}
-use Rattle.page.specs.Sound.{Sound}
-use Rattle.event.specs.Run.{joined}
-use Rattle.look.specs.Live.{live}
-use Rattle.writer.specs.declared.Writer.{Writer}
+use Rattle.page_rules.specs.Page.{pageOf}
+use Rattle.page_rules.specs.Sound.{Sound}
+use Rattle.event_rules.specs.Run.{joined}
+use Rattle.look_rules.specs.Live.{live}
+use Rattle.writer_rules.specs.declared.Writer.{Writer}
 use Rattle.history.specs.Ring.{Ring, write}
 use Rattle.history.specs.Holding.{Holding}
 use Rattle.promise.specs.Bytes.{Event, size, encode}

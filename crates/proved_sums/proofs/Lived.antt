@@ -5,14 +5,14 @@ use mathlib.Core.Path.{_≡_, ap, _∙_}
 use mathlib.Core.Bool.{true, not}
 use mathlib.Core.List.{List, map}
 use lib.ListN.{length}
-use Rattle.word.specs.Number.{number}
-use Rattle.capacity.specs.Capacity.{allowed}
-use Rattle.page.specs.Page.{pageOf}
-use Rattle.page.specs.Fresh.{blank}
-use Rattle.page.proofs.Fresh.{blank-generation}
-use Rattle.create.specs.Create.{wrongSize, afterCreate}
-use Rattle.create.proofs.Laws.{size-passed}
-use Rattle.writer.specs.declared.Writer.{Writer}
+use Rattle.word_rules.specs.Number.{number}
+use Rattle.capacity_rules.specs.Capacity.{allowed}
+use Rattle.page_rules.specs.Page.{pageOf}
+use Rattle.page_rules.specs.Fresh.{blank}
+use Rattle.page_rules.proofs.Fresh.{blank-generation}
+use Rattle.create_rules.specs.Create.{wrongSize, afterCreate}
+use Rattle.create_rules.proofs.Laws.{size-passed}
+use Rattle.writer_rules.specs.declared.Writer.{Writer}
 use Rattle.history.specs.Ring.{Ring, given, fresh, write, emit}
 use Rattle.history.specs.Calls.{Call, calls}
 use Rattle.history.specs.Calls.{after as afterCalls}

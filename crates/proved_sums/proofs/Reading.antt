@@ -6,21 +6,21 @@ use mathlib.Core.Bool.{true}
 use mathlib.Core.List.{List, _∷_, _++_, map}
 use lib.ListN.{length, take, drop}
 use lib.Seq.{take-at, drop-at}
-use Rattle.page.specs.Page.{pageOf}
-use Rattle.page.specs.declared.Page.{Page}
-use Rattle.region.specs.Region.{bytesAt}
-use Rattle.event.specs.Event.{eventSize, sequence, wellFormed}
-use Rattle.event.specs.Run.{joined, One, Each}
-use Rattle.event.proofs.Wholes.{each-parts}
-use Rattle.event.proofs.Front.{size-front, sequence-front, well-front, take-front, joined-append}
-use Rattle.look.specs.Live.{rest, live}
-use Rattle.look.proofs.Laws.{rest-drop, rest-take}
-use Rattle.writer.specs.declared.Writer.{Writer}
-use Rattle.reader.specs.Reader.{movedTo}
-use Rattle.reader.specs.Read.{place, handedOut, readOut}
-use Rattle.reader.specs.declared.Reader.{Reader}
-use Rattle.reader.specs.declared.Reading.the-variants as reading
-use Rattle.reader.proofs.Cases.{stays, read-empty, read-event}
+use Rattle.page_rules.specs.Page.{pageOf}
+use Rattle.page_rules.specs.declared.Page.{Page}
+use Rattle.region_rules.specs.Region.{bytesAt}
+use Rattle.event_rules.specs.Event.{eventSize, sequence, wellFormed}
+use Rattle.event_rules.specs.Run.{joined, One, Each}
+use Rattle.event_rules.proofs.Wholes.{each-parts}
+use Rattle.event_rules.proofs.Front.{size-front, sequence-front, well-front, take-front, joined-append}
+use Rattle.look_rules.specs.Live.{rest, live}
+use Rattle.look_rules.proofs.Laws.{rest-drop, rest-take}
+use Rattle.writer_rules.specs.declared.Writer.{Writer}
+use Rattle.reader_rules.specs.Reader.{movedTo}
+use Rattle.reader_rules.specs.Read.{place, handedOut, readOut}
+use Rattle.reader_rules.specs.declared.Reader.{Reader}
+use Rattle.reader_rules.specs.declared.Reading.the-variants as reading
+use Rattle.reader_rules.proofs.Cases.{stays, read-empty, read-event}
 use Rattle.history.specs.Runs.{total}
 use Rattle.history.specs.Ring.{Numbered, Ring, bytes, write}
 use Rattle.history.proofs.Runs.{total-append}

@@ -4,13 +4,13 @@ use native.Mathlib.Omega.{arith}
 use mathlib.Core.Path.{_≡_, refl, sym, ap, ap₂, _∙_, subst}
 use mathlib.Core.List.{List, [], _∷_, map}
 use lib.ListN.{getD, length-map}
-use Rattle.page.specs.Page.{pageOf}
-use Rattle.event.specs.Event.{sequence}
-use Rattle.event.specs.Run.{Whole}
-use Rattle.writer.specs.declared.Writer.{Writer}
-use Rattle.inspect.specs.Inspect.{walked}
-use Rattle.inspect.specs.declared.Inspected.the-variants as answers
-use Rattle.inspect.proofs.Surveys.{walked-all}
+use Rattle.page_rules.specs.Page.{pageOf}
+use Rattle.event_rules.specs.Event.{sequence}
+use Rattle.event_rules.specs.Run.{Whole}
+use Rattle.writer_rules.specs.declared.Writer.{Writer}
+use Rattle.inspect_rules.specs.Inspect.{walked}
+use Rattle.inspect_rules.specs.declared.Inspected.the-variants as answers
+use Rattle.inspect_rules.proofs.Surveys.{walked-all}
 use Rattle.history.specs.Runs.{total}
 use Rattle.history.specs.Ring.{Numbered, Ring, Rising, newest, bytes, write}
 use Rattle.history.proofs.Rising.{rising-length}

@@ -6,17 +6,17 @@ use mathlib.Core.Bool.{true}
 use mathlib.Core.List.{List, [], _∷_, _++_}
 use lib.ListN.{length, take, drop, length-append}
 use lib.Seq.{drop-at}
-use Rattle.capacity.specs.Capacity.{allowed, powerAmong}
-use Rattle.page.specs.Page.{pageOf}
-use Rattle.create.specs.Create.{afterCreate}
-use Rattle.reader.specs.Reader.{missed}
-use Rattle.reader.specs.Attach.{attached}
-use Rattle.reader.specs.Read.{Outcome, readOut}
-use Rattle.reader.specs.declared.Reader.{Reader}
-use Rattle.reader.specs.declared.Attachment.the-variants.{Done}
-use Rattle.reader.specs.declared.Reading.the-variants as reading
-use Rattle.reader.proofs.Attaching.{attach-done}
-use Rattle.writer.specs.declared.Writer.{Writer}
+use Rattle.capacity_rules.specs.Capacity.{allowed, powerAmong}
+use Rattle.page_rules.specs.Page.{pageOf}
+use Rattle.create_rules.specs.Create.{afterCreate}
+use Rattle.reader_rules.specs.Reader.{missed}
+use Rattle.reader_rules.specs.Attach.{attached}
+use Rattle.reader_rules.specs.Read.{Outcome, readOut}
+use Rattle.reader_rules.specs.declared.Reader.{Reader}
+use Rattle.reader_rules.specs.declared.Attachment.the-variants.{Done}
+use Rattle.reader_rules.specs.declared.Reading.the-variants as reading
+use Rattle.reader_rules.proofs.Attaching.{attach-done}
+use Rattle.writer_rules.specs.declared.Writer.{Writer}
 use Rattle.history.specs.Runs.{latest, older}
 use Rattle.history.specs.Ring.{Numbered, Ring, write, emit, swap}
 use Rattle.history.specs.Calls.{calls, after}

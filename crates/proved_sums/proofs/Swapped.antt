@@ -7,18 +7,18 @@ use mathlib.Core.Bool.{true}
 use mathlib.Core.List.{List, map}
 use lib.ListN.{length, drop, length-map}
 use lib.Seq.{drop-append-seam}
-use Rattle.capacity.specs.Capacity.{allowed}
-use Rattle.page.specs.Page.{pageOf}
-use Rattle.page.specs.Sound.{Sound}
-use Rattle.page.specs.declared.Page.{Page}
-use Rattle.event.specs.Run.{joined, Whole}
-use Rattle.look.specs.Live.{live}
-use Rattle.inspect.specs.Inspect.{walked}
-use Rattle.inspect.specs.declared.Survey.{Survey}
-use Rattle.inspect.proofs.Surveys.{survey-all}
-use Rattle.swap.specs.Swap.{After, discarded, latest, exchange, Carriable}
-use Rattle.swap.specs.Rings.{Exchanged}
-use Rattle.swap.proofs.Rings.{swapped-sound}
+use Rattle.capacity_rules.specs.Capacity.{allowed}
+use Rattle.page_rules.specs.Page.{pageOf}
+use Rattle.page_rules.specs.Sound.{Sound}
+use Rattle.page_rules.specs.declared.Page.{Page}
+use Rattle.event_rules.specs.Run.{joined, Whole}
+use Rattle.look_rules.specs.Live.{live}
+use Rattle.inspect_rules.specs.Inspect.{walked}
+use Rattle.inspect_rules.specs.declared.Survey.{Survey}
+use Rattle.inspect_rules.proofs.Surveys.{survey-all}
+use Rattle.swap_rules.specs.Swap.{After, discarded, latest, exchange, Carriable}
+use Rattle.swap_rules.specs.Rings.{Exchanged}
+use Rattle.swap_rules.proofs.Rings.{swapped-sound}
 use Rattle.history.specs.Runs as runs
 use Rattle.history.specs.Ring.{Numbered, Ring, bytes, swap}
 use Rattle.history.proofs.Runs.{older-latest}

@@ -3,13 +3,13 @@ use Prim.Native.Nat.{ℕ, zero, suc}
 use mathlib.Core.Path.{_≡_}
 use mathlib.Core.List.{List, [], _∷_, map}
 use lib.ListN.{length, getD}
-use Rattle.page.specs.Page.{pageOf}
-use Rattle.event.specs.Event.{sequence}
-use Rattle.writer.specs.declared.Writer.{Writer}
-use Rattle.inspect.specs.Inspect.{walked, inspected}
-use Rattle.inspect.specs.declared.Summary.{Summary}
-use Rattle.inspect.specs.declared.Inspected.the-variants.{Whole}
-use Rattle.swap.specs.Swap.{After, exchange}
+use Rattle.page_rules.specs.Page.{pageOf}
+use Rattle.event_rules.specs.Event.{sequence}
+use Rattle.writer_rules.specs.declared.Writer.{Writer}
+use Rattle.inspect_rules.specs.Inspect.{walked, inspected}
+use Rattle.inspect_rules.specs.declared.Summary.{Summary}
+use Rattle.inspect_rules.specs.declared.Inspected.the-variants.{Whole}
+use Rattle.swap_rules.specs.Swap.{After, exchange}
 use Rattle.history.specs.Ring.{Answer}
 use Rattle.history.specs.Calls.{Call}
 use Rattle.promise.specs.Bytes.{Event, State, Turn, made, after, callOf}

@@ -3,16 +3,16 @@ use Prim.Native.Nat.{ℕ, _+_, _≤_}
 use mathlib.Core.Path.{_≡_}
 use mathlib.Core.List.{List, [], _∷_, _++_}
 use lib.ListN.{length, take, drop}
-use Rattle.page.specs.Page.{pageOf}
-use Rattle.writer.specs.declared.Writer.{Writer}
-use Rattle.create.specs.Create.{afterCreate}
-use Rattle.reader.specs.Reader.{missed}
-use Rattle.reader.specs.Attach.{attached}
-use Rattle.reader.specs.Read.{Outcome, readOut}
-use Rattle.reader.specs.declared.Reader.{Reader}
-use Rattle.reader.specs.declared.Attachment.the-variants as attachment
-use Rattle.reader.specs.declared.Reading.{Reading}
-use Rattle.reader.specs.declared.Reading.the-variants.{Event, Empty}
+use Rattle.page_rules.specs.Page.{pageOf}
+use Rattle.writer_rules.specs.declared.Writer.{Writer}
+use Rattle.create_rules.specs.Create.{afterCreate}
+use Rattle.reader_rules.specs.Reader.{missed}
+use Rattle.reader_rules.specs.Attach.{attached}
+use Rattle.reader_rules.specs.Read.{Outcome, readOut}
+use Rattle.reader_rules.specs.declared.Reader.{Reader}
+use Rattle.reader_rules.specs.declared.Attachment.the-variants as attachment
+use Rattle.reader_rules.specs.declared.Reading.{Reading}
+use Rattle.reader_rules.specs.declared.Reading.the-variants.{Event, Empty}
 use Rattle.history.specs.Ring.{Done, Dropped}
 use Rattle.promise.specs.Bytes.{encode, Turn}
 use Rattle.proved_sums.specs.Lives.{paid, lived, answers, swapped, retired, Shows}

@@ -4,12 +4,12 @@ use crate::state::State;
 use crate::state::unknown;
 use crate::state::with_reader;
 use crate::state::with_writer;
-use reader::Reader;
+use reader_rules::Reader;
 use script::Parsed;
 use script::field::field;
 use script::number::number;
 use script::number::number_to;
-use writer::Writer;
+use writer_rules::Writer;
 
 pub fn set_writer(line: &[u8], state: State) -> State {
     let w = number_to(field(line, 1), 3);

@@ -5,12 +5,12 @@ use crate::state::State;
 use crate::state::unknown;
 use crate::state::with_reader;
 use crate::state::with_writer;
-use create::Created;
-use emit::Label;
-use inspect::Inspected;
-use reader::Attached;
-use reader::Attachment;
-use reader::Reading;
+use create_rules::Created;
+use emit_rules::Label;
+use inspect_rules::Inspected;
+use reader_rules::Attached;
+use reader_rules::Attachment;
+use reader_rules::Reading;
 use script::Parsed;
 use script::field::field;
 use script::hex::hex;
@@ -31,12 +31,12 @@ pub fn create(line: &[u8], state: State, ring: &mut [u8]) -> State {
     state
 }
 
-fn emission(answer: emit::Outcome) {
+fn emission(answer: emit_rules::Outcome) {
     match answer {
-        emit::Outcome::Done => say::words(b"done"),
-        emit::Outcome::Wake => say::words(b"wake"),
-        emit::Outcome::Dropped => say::words(b"dropped"),
-        emit::Outcome::Refused(refused) => say::refusal(refused),
+        emit_rules::Outcome::Done => say::words(b"done"),
+        emit_rules::Outcome::Wake => say::words(b"wake"),
+        emit_rules::Outcome::Dropped => say::words(b"dropped"),
+        emit_rules::Outcome::Refused(refused) => say::refusal(refused),
     }
 }
 
@@ -162,11 +162,11 @@ pub fn read(line: &[u8], state: State, ring: &[u8], out: &mut [u8]) -> State {
     with_reader(state, r, answered.reader)
 }
 
-fn exchange(answer: swap::Outcome) {
+fn exchange(answer: swap_rules::Outcome) {
     match answer {
-        swap::Outcome::Done => say::words(b"done"),
-        swap::Outcome::Wake => say::words(b"wake"),
-        swap::Outcome::Refused(refused) => say::refusal(refused),
+        swap_rules::Outcome::Done => say::words(b"done"),
+        swap_rules::Outcome::Wake => say::words(b"wake"),
+        swap_rules::Outcome::Refused(refused) => say::refusal(refused),
     }
 }
 

@@ -3,12 +3,12 @@ use crate::adler::adler32;
 use crate::room::text_room;
 use io::write_all;
 use libc::STDOUT_FILENO;
-use reader::Reader;
+use reader_rules::Reader;
 use script::hex::put_hex;
-use table::Refusal;
 use table::paper_number;
+use table_rules::Refusal;
 use text::decimal::number_text;
-use writer::Writer;
+use writer_rules::Writer;
 
 pub fn words(bytes: &[u8]) {
     write_all(STDOUT_FILENO, bytes);

@@ -1,7 +1,7 @@
 // What a script plays on beside the bytes of its buffers.
 use crate::say::words;
-use reader::Reader;
-use writer::Writer;
+use reader_rules::Reader;
+use writer_rules::Writer;
 ghost use Prim.Native.Nat.{_≤_};
 
 // How many bytes of each buffer are in use, and the records.

@@ -1,17 +1,17 @@
 // The lives of rings that lines 1 to 10 tell of.
 use crate::print;
 use create::create;
-use emit::Emitted;
-use emit::Label;
 use emit::emit::emit;
-use reader::Reader;
-use reader::Reading;
+use emit_rules::Emitted;
+use emit_rules::Label;
 use reader::attach::attach;
 use reader::read::read;
+use reader_rules::Reader;
+use reader_rules::Reading;
 use swap::swap::swap;
 use word::number::get32;
 use word::number::get64;
-use writer::Writer;
+use writer_rules::Writer;
 ghost use Prim.Native.Nat.{_≤_};
 ghost use lib.ListN.{length};
 

@@ -1,14 +1,14 @@
 // Words and numbers to standard output.
-use emit::Outcome;
-use inspect::Inspected;
+use emit_rules::Outcome;
+use inspect_rules::Inspected;
 use io::print_decimal;
 use io::write_all;
 use libc::STDOUT_FILENO;
-use page::Opened;
 use page::open::open;
-use table::Refusal;
+use page_rules::Opened;
 use table::paper_number;
-use writer::Writer;
+use table_rules::Refusal;
+use writer_rules::Writer;
 
 pub fn word(bytes: &[u8]) {
     write_all(STDOUT_FILENO, bytes);

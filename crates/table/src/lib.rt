@@ -1,27 +1,7 @@
-// The refusals of document 01, one enum for every operation.
+// The refusals by their numbers.
+use table_rules::Refusal;
 ghost use mathlib.Core.Path.{_≡_};
-ghost use Rattle.table.specs.Refusals.{paperNumber};
-
-// `Damaged` holds the position of the event that isn't well formed.
-pub enum Refusal {
-    Short,
-    Magic,
-    Version,
-    Layout,
-    Length,
-    Position,
-    Writer,
-    Spent,
-    Far,
-    Damaged(u64),
-    Disagree,
-    NoRoom,
-    Reader,
-    Out,
-    Generation,
-    Size,
-    Record,
-}
+ghost use Rattle.table_rules.specs.Refusals.{paperNumber};
 
 // The number under which document 01 knows a refusal.
 pub fn paper_number(refusal: Refusal) -> u8

@@ -1,8 +1,8 @@
 use Prim.Native.Nat.{ℕ}
 use mathlib.Core.Path.{ap, _∙_}
 use mathlib.Core.List.{List}
-use Rattle.word.specs.Number.{put}
-use Rattle.word.specs.Fields.{putAll}
+use Rattle.word_rules.specs.Number.{put}
+use Rattle.word_rules.specs.Fields.{putAll}
 use borrow.Author.Needs.{needs}
 use Rattle.bench_calls.proofs.reader_record.keep_reader.Statement.{statement}
 use Rattle.bench_calls.proofs.reader_record.keep_reader.Tie as tie

@@ -3,7 +3,7 @@ use mathlib.Core.Path.{refl, sym}
 use native.Mathlib.Omega.{arith}
 use lib.ListN.{length}
 use denote.Ref.{now}
-use Rattle.table.proofs.Tests.{carried}
+use Rattle.table_rules.proofs.Tests.{carried}
 use Rattle.script.proofs.Pairs.{count-dash, count-bad, count-spelt, bytes-dash, bytes-bad, bytes-spelt, spelling}
 use borrow.Author.Needs.{needs}
 use Rattle.script.proofs.hex.hex.Statement.{statement}

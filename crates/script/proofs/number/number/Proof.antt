@@ -1,4 +1,4 @@
-use Rattle.table.proofs.Tests.{carried}
+use Rattle.table_rules.proofs.Tests.{carried}
 use Prim.Native.Nat.{_-_, _≤_}
 use mathlib.Core.Path.{_≡_, sym, _∙_}
 use native.Mathlib.Omega.{arith}

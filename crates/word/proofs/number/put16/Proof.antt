@@ -2,7 +2,7 @@ use native.Mathlib.Omega.{arith}
 use native.Mathlib.Nat.{add-zero, div-one, mod-eq-of-lt}
 use lib.ListN.{length-set}
 use Prim.Native.Nat.{_/_}
-use Rattle.word.specs.Number.{put}
+use Rattle.word_rules.specs.Number.{put}
 use borrow.Author.Needs.{needs}
 use Rattle.word.proofs.number.put16.Statement.{statement}
 use Rattle.word.proofs.number.put16.Tie as tie

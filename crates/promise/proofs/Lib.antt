@@ -8,3 +8,4 @@ pub mod Generation
 pub mod Created
 pub mod Unrefused
 pub mod Decided
+pub mod Reading

@@ -22,12 +22,12 @@ use Rattle.history.specs.Ring.{Numbered, Ring, write, emit, swap}
 use Rattle.history.specs.Calls.{calls, after}
 use Rattle.promise.specs.Bytes.{Event, size, Turn}
 use Rattle.promise.specs.Holds.{Holds}
+use Rattle.promise.proofs.Reading.{event-at, reads-event, reads-empty}
 use Rattle.promise.proofs.Encoding.{encode-length}
 use Rattle.proved_sums.specs.Lives.{cut, paid, lived, swapped, retired, Shows}
 use Rattle.proved_sums.specs.Sums.{one, two, three, four, five, ten, standing, answering, Reads, bytesOf, AllSums}
 use Rattle.proved_sums.proofs.Shown.{numbers, recordOf, shows}
 use Rattle.proved_sums.proofs.Lived.{reached, begins, first-generation, lived-holds, lived-shows, lived-answers, lived-generation}
-use Rattle.proved_sums.proofs.Reading.{event-at, reads-event, reads-empty}
 use Rattle.proved_sums.proofs.Swapped.{swapped-holds, new-generation, old-generation}
 use Rattle.proved_sums.proofs.Stretches.{stretches}
 
@@ -79,7 +79,7 @@ module _ (given : ℕ → Turn) (buffer : ℕ → List ℕ) (sized : (capacity :
         first-missed = ap (λ (o : Outcome). missed (o .answered .reader)) first ∙ refl;
         second = second;
         second-missed = ap (λ (o : Outcome). missed (o .answered .reader)) second ∙ refl;
-        third = reads-empty 3 256 s w ring h (standing 544 7 2) (bytesOf given 7 ++ drop 128 out) refl (omega arith)
+        third = reads-empty 3 256 s w ring h (standing 544 7 2) (bytesOf given 7 ++ drop 128 out) (omega arith) (omega arith) (omega arith)
             (lived-generation given buffer sized 256 refl five);
       }
 

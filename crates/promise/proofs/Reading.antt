@@ -20,27 +20,27 @@ use Rattle.reader_rules.specs.Reader.{movedTo}
 use Rattle.reader_rules.specs.Read.{place, handedOut, readOut}
 use Rattle.reader_rules.specs.declared.Reader.{Reader}
 use Rattle.reader_rules.specs.declared.Reading.the-variants as reading
-use Rattle.reader_rules.proofs.Cases.{stays, read-empty, read-event}
+use Rattle.reader_rules.proofs.Cases.{read-empty, read-event}
 use Rattle.history.specs.Runs.{total}
 use Rattle.history.specs.Ring.{Numbered, Ring, bytes, write}
 use Rattle.history.proofs.Runs.{total-append}
 use Rattle.promise.specs.Bytes.{Event, size, encode}
 use Rattle.promise.specs.Holds.{Holds}
 use Rattle.promise.proofs.Encoding.{map-append, encode-length, encode-sequence, joined-length}
 use Rattle.promise.proofs.Holds.{holds-range, holds-whole}
 
 module _ (cpu capacity : ℕ) (s : List ℕ) (w : Writer) (ring : Ring Event) (h : Holds cpu capacity s w ring) where
   abbrev p : Page
   p = pageOf s
 
-  -- a reader at the end
-  pub reads-empty : (reader : Reader) (out : List ℕ) → reader .«read_pos» ≡ write size ring → reader .handed ≤ reader .last → p .generation ≡ reader .generation
-      → readOut s reader out ≡ record { answered = record { answer = reading.Empty; reader = reader }; out = out }
-  reads-empty reader out end counted same =
-      let there : reader .«read_pos» ≡ p .«write_pos» = end ∙ sym (h .write-is) in
-      let stands : place p reader ≡ reader .«read_pos» = stays s p reader (h .sound) there in
-      read-empty s reader out p (h .sound) (record { counted = counted; behind = omega (arith, there) }) (stands ∙ there) same
-      ∙ ap (λ (k : ℕ). record { answered = record { answer = reading.Empty; reader = movedTo k reader }; out = out }) stands
+  -- a reader with no event left
+  pub reads-empty : (reader : Reader) (out : List ℕ) → place p reader ≡ write size ring → reader .«read_pos» ≤ write size ring
+      → reader .handed ≤ reader .last → p .generation ≡ reader .generation
+      → readOut s reader out ≡ record { answered = record { answer = reading.Empty; reader = movedTo (write size ring) reader }; out = out }
+  reads-empty reader out end behind counted same =
+      read-empty s reader out p (h .sound)
+      (record { counted = counted; behind = omega (arith, behind, h .write-is) }) (end ∙ sym (h .write-is)) same
+      ∙ ap (λ (k : ℕ). record { answered = record { answer = reading.Empty; reader = movedTo k reader }; out = out }) end
 
   module _ (front : List (Numbered Event)) (x : Numbered Event) (more : List (Numbered Event)) (cut : ring .kept ≡ front ++ (x ∷ more)) where
     -- where the event begins

@@ -4,7 +4,7 @@ use mathlib.Core.Path.{_≡_, refl, sym, _∙_}
 use mathlib.Core.List.{List, [], _∷_, _++_}
 use native.Mathlib.Omega.{arith}
 use lib.ListN.{length, set, take, drop, length-append}
-use lib.Seq.{sets, length-sets, sets-eq, take-at, drop-at}
+use lib.Seq.{length-sets, sets-eq, take-at, drop-at}
 use Rattle.word.proofs.Runs.{sets-append}
 use Rattle.text.specs.Put.{Put, Front}
 

@@ -13,7 +13,7 @@ use Rattle.history.specs.Ring.{Numbered, Ring, given, bytes, write, emit}
 use Rattle.history.specs.Calls.{Call, uses, used, droppedOf, accepted, call, calls}
 use Rattle.history.specs.Calls.{after as afterCalls}
 use Rattle.history.proofs.Demand2.{one2, demand2 as abstract2}
-use Rattle.promise.specs.Bytes.{Event, size, taken, encode, State, Turn, consumed, emitted, left, Made, made, after, answerOf, callOf, acceptedOf}
+use Rattle.promise.specs.Bytes.{Event, size, taken, encode, State, Turn, consumed, emitted, left, Made, madeBy, made, afterBy, after, answerOf, callOf, acceptedOf}
 use Rattle.promise.specs.Holds.{Holds}
 use Rattle.promise.specs.Demand2.{waiting, Exact, shown, Promise, Demand2, Undisturbed2}
 use Rattle.promise.proofs.Encoding.{encode-lengths}
@@ -53,7 +53,7 @@ module _ (cpu capacity : ℕ) where
   pub same-calls : (turns : List Turn) (s : State) (ring : Ring Event) → Holds cpu capacity (s .ring) (s .writer) ring
       → (map callOf (made s turns) ≡ calls given (emit size capacity) ring (events turns))
       × Holds cpu capacity (after s turns .ring) (after s turns .writer) (afterCalls (emit size capacity) ring (events turns))
-  unfolding made after calls afterCalls
+  unfolding madeBy afterBy calls afterCalls
   same-calls [] s ring h = (refl, h)
   same-calls (t ∷ ts) s ring h =
       let rest = same-calls ts (left (emitted s t)) (next ring (t .event)) (turn-step s ring t h .holds) in
@@ -61,7 +61,7 @@ module _ (cpu capacity : ℕ) where
 
   exact : (turns : List Turn) (s : State) (ring : Ring Event) → Holds cpu capacity (s .ring) (s .writer) ring
       → Exact capacity (ring .last) (write size ring) (made s turns)
-  unfolding made
+  unfolding madeBy
   exact [] s ring h = tt
   exact (t ∷ ts) s ring h =
       let a = turn-step s ring t h in

@@ -27,7 +27,7 @@ use Rattle.emit_rules.specs.Emit.{After, refuse, writerRows, tooLarge, dropped,
 use Rattle.emit_rules.specs.declared.Label.{Label}
 use Rattle.table_rules.proofs.Laws.{answers}
 use Rattle.history.specs.Ring.{Ring, emit}
-use Rattle.promise.specs.Bytes.{Event, size, labelOf, State, Turn, consumed, emitted, left, after}
+use Rattle.promise.specs.Bytes.{Event, size, labelOf, State, Turn, consumed, emitted, left, afterBy, after}
 use Rattle.promise.specs.Holds.{Holds}
 use Rattle.promise.proofs.Consumer.{consumed-elsewhere}
 use Rattle.promise.proofs.Demand2.{turn-step}
@@ -82,7 +82,7 @@ consumed-generation s page whole h =
 -- so it stands through a history, whatever the consumer writes
 pub generation-stays : (cpu capacity : ℕ) (turns : List Turn) (s : State) (ring : Ring Event) → Holds cpu capacity (s .ring) (s .writer) ring
     → pageOf (after s turns .ring) .generation ≡ pageOf (s .ring) .generation
-unfolding after
+unfolding afterBy
 generation-stays cpu capacity [] s ring h = refl
 generation-stays cpu capacity (t ∷ ts) s ring h =
     generation-stays cpu capacity ts (left (emitted s t)) ((emit size capacity ring (t .event)) .next) (turn-step cpu capacity s ring t h .holds)

@@ -9,3 +9,5 @@ pub mod Created
 pub mod Unrefused
 pub mod Decided
 pub mod Reading
+pub mod Only2
+pub mod ShutOut2

@@ -10,7 +10,7 @@ use Rattle.history.specs.Ring.{Numbered, Answer, write, emit}
 use Rattle.history.specs.Ring as answers
 use Rattle.history.specs.Calls.{uses, accepts}
 use Rattle.history.proofs.Demand2.{one2}
-use Rattle.promise.specs.Bytes.{Event, size, taken, Turn, emitted, left, made}
+use Rattle.promise.specs.Bytes.{Event, size, taken, Turn, emitted, left, madeBy}
 use Rattle.promise.specs.Demand2.{Given, waiting, Unrefused2}
 use Rattle.promise.proofs.Demand2.{turn-step}
 
@@ -30,7 +30,7 @@ not-given capacity last w size t r few near (inl g) = omega (arith, g .1)
 not-given capacity last w size t r few near (inr g) = omega (arith, g .3)
 
 pub unrefused2 : Unrefused2
-unfolding made
+unfolding madeBy
 unrefused2 cpu capacity beginning s h [] few near = tt
 unrefused2 cpu capacity beginning s h (t ∷ ts) few near =
     let a = turn-step cpu capacity s beginning t h in

@@ -7,7 +7,7 @@
 --   by one that keeps less than it could, or moves the tail to anything but an event's start: `bytes` with `longest`;
 --   by one that gives a number twice or leaves one out: `exact`, `last`;
 --   by one that invents dropped or overwritten: `dropped`, `counts` with `inspection`.
--- `Decided2` says it of all others.
+-- `Only2` (specs/Only2.antt) says it of all others, and `ShutOut2` of these one by one.
 use Prim.Native.Nat.{ℕ, _+_, _-_, _/_, _^_, _≤_, _<_}
 use mathlib.Core.Path.{_≡_}
 use mathlib.Core.Logic.{_⊎_, _≢_, _↔_}
@@ -32,7 +32,7 @@ use Rattle.writer_rules.specs.declared.Writer.{Writer}
 use Rattle.history.specs.Runs.{total, LongestRun}
 use Rattle.history.specs.Ring.{Numbered, Ring, newest, fresh, write}
 use Rattle.history.specs.Calls.{uses, used, droppedOf}
-use Rattle.promise.specs.Bytes.{Event, size, taken, encode, oldest, State, consumed, Turn, Made, made, after, answerOf, callOf, acceptedOf}
+use Rattle.promise.specs.Bytes.{Event, size, taken, encode, oldest, State, consumed, Turn, Emission, Made, madeBy, afterBy, operation, made, after, answerOf, callOf, acceptedOf}
 use Rattle.promise.specs.Holds.{Holds}
 
 -- ---- each call's answer
@@ -120,10 +120,14 @@ abbrev pub createdState : ℕ → List ℕ → State
 createdState cpu buffer = record { ring = afterCreate cpu buffer; writer = zeros }
 
 -- from a fresh ring, the first case: any cpu_id, any allowed capacity, any buffer of its length. Nothing is kept in `fresh`, and its numbers are 0
-abbrev pub Fresh2 : Type 0
-Fresh2 =
+abbrev pub FreshBy2 : Emission → Type 0
+FreshBy2 make =
     (cpu capacity : ℕ) → cpu < 2 ^ 16 → allowed capacity ≡ true → (buffer : List ℕ) → length buffer ≡ 8192 + capacity → (turns : List Turn) →
-    (created buffer ≡ creates.Done) × Promise cpu capacity fresh (made (createdState cpu buffer) turns) (after (createdState cpu buffer) turns)
+    (created buffer ≡ creates.Done)
+    × Promise cpu capacity fresh (madeBy make (createdState cpu buffer) turns) (afterBy make (createdState cpu buffer) turns)
+
+abbrev pub Fresh2 : Type 0
+Fresh2 = FreshBy2 operation
 
 -- what the consumer writes after the last call doesn't break it either
 abbrev pub Undisturbed2 : Type 0
@@ -139,15 +143,19 @@ Unrefused2 =
     beginning .last + length turns < 2 ^ 64 → write size beginning + total (λ (t : Turn). size (t .event)) turns ≤ 2 ^ 62 →
     NoneRefused (made s turns)
 
--- the promise leaves no choice: whatever meets it, with the same consumer and the same events, gives these answers and leaves these bytes,
--- positions and this record
-abbrev pub Decided2 : Type 0
-Decided2 =
-    (cpu capacity : ℕ) (beginning : Ring Event) (calls others : List Made) (one other : State) →
-    map (λ (m : Made). m .turn) calls ≡ map (λ (m : Made). m .turn) others →
-    Promise cpu capacity beginning calls one → Promise cpu capacity beginning others other →
+-- the same answers, the same record and positions, and the same bytes from tail to write position
+abbrev pub Alike : List Made → State → List Made → State → Type 0
+Alike calls one others other =
     (map (λ (m : Made). m .answer .outcome) calls ≡ map (λ (m : Made). m .answer .outcome) others)
     × (one .writer ≡ other .writer)
     × (pageOf (one .ring) .«tail_pos» ≡ pageOf (other .ring) .«tail_pos»)
     × (pageOf (one .ring) .«write_pos» ≡ pageOf (other .ring) .«write_pos»)
     × (live (one .ring) (pageOf (one .ring)) ≡ live (other .ring) (pageOf (other .ring)))
+
+-- the promise leaves no choice: whatever meets it twice, with the same consumer and the same events, is alike
+abbrev pub Decided2 : Type 0
+Decided2 =
+    (cpu capacity : ℕ) (beginning : Ring Event) (calls others : List Made) (one other : State) →
+    map (λ (m : Made). m .turn) calls ≡ map (λ (m : Made). m .turn) others →
+    Promise cpu capacity beginning calls one → Promise cpu capacity beginning others other →
+    Alike calls one others other

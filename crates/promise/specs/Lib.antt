@@ -1,3 +1,4 @@
 pub mod Bytes
 pub mod Holds
 pub mod Demand2
+pub mod Only2

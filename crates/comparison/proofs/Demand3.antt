@@ -12,6 +12,7 @@ use Rattle.page_rules.specs.Page.{pageOf}
 use Rattle.create_rules.specs.Create.{afterCreate}
 use Rattle.emit_rules.specs.declared.Outcome.{Outcome}
 use Rattle.emit_rules.specs.declared.Outcome.the-variants.{Done, Wake, Dropped, Refused}
+use Rattle.reader_rules.specs.Read.{readOut}
 use Rattle.reader_rules.specs.declared.Reader.{Reader}
 use Rattle.reader_rules.specs.declared.Attached.{Attached}
 use Rattle.reader_rules.proofs.Attaching.{attach-done}
@@ -93,7 +94,7 @@ module _ (cpu c C : ℕ) (order : c ≤ C) where
         subst₂ (λ (d D : AllRead Event). Ideal3 size d D) (done-is size positive c w (i .both .small)) (done-is size positive C W (i .both .large))
         (promise3 size positive c C order w W (i .both))
 
-  no-less : (steps : List Step) (small large : Watched) (w W : Ideal Event) → Beside small large w W → NoLess cpu c C small large steps
+  no-less : (steps : List Step) (small large : Watched) (w W : Ideal Event) → Beside small large w W → NoLess readOut cpu c C small large steps
   no-less [] small large w W i = tt
   no-less (Emission e ofSmall ofLarge ∷ steps) small large w W i =
       λ fair. (

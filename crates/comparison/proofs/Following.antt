@@ -5,6 +5,7 @@ use mathlib.Core.Path.{_≡_, refl, sym, ap, ap₂, _∙_, subst, subst₂}
 use mathlib.Core.List.{List, [], _∷_, _++_, map}
 use lib.ListN.{length}
 use Rattle.page_rules.specs.Page.{pageOf}
+use Rattle.reader_rules.specs.Read.{readOut}
 use Rattle.reader_rules.specs.declared.Reader.{Reader}
 use Rattle.history.specs.Runs.{LongestRun}
 use Rattle.history.specs.Ring.{Numbered, Ring, newest, given, bytes, write, emit}
@@ -67,7 +68,7 @@ module _ (cpu capacity : ℕ) where
 
     -- one event at each read, and then EMPTY
     empties : (u : List (Numbered Event)) (r : Place) → Following size ring r → unread size ring r ≡ u → Within room u
-        → Empties room (s .ring) (recordOf generation r) (map (encode cpu) u) (recordOf generation (finished size ring r u))
+        → Empties readOut room (s .ring) (recordOf generation r) (map (encode cpu) u) (recordOf generation (finished size ring r u))
     empties [] r f e small =
         λ lent.
         read-none cpu capacity (consumed (s .ring) (lent .page)) (s .writer) ring
@@ -82,7 +83,7 @@ module _ (cpu capacity : ℕ) where
               read-one cpu capacity (consumed (s .ring) (lent .page)) (s .writer) ring
               (consumed-holds cpu capacity (s .ring) (lent .page) (s .writer) ring (lent .whole) h) r f generation (lent .out) x u e
               (omega (arith, small .0, lent .roomy)),
-          subst (λ (q : Place). Empties room (s .ring) (recordOf generation (past size ring r x)) (map (encode cpu) u) (recordOf generation q)) end
+          subst (λ (q : Place). Empties readOut room (s .ring) (recordOf generation (past size ring r x)) (map (encode cpu) u) (recordOf generation q)) end
               (empties u (past size ring r x) (following-past size positive ring r x u f e) (unread-past size positive ring r x u f e) (small .1)),
         )
 
@@ -94,9 +95,9 @@ module _ (cpu capacity : ℕ) where
     endOf = recordOf (pageOf (b .state .ring) .generation) (finished size (w .ring) (w .reader) (unread size (w .ring) (w .reader)))
 
     module _ (small : Within room (unread size (w .ring) (w .reader))) where
-      pub ended : Empties room (b .state .ring) (b .reader) (map (encode cpu) left) endOf
+      pub ended : Empties readOut room (b .state .ring) (b .reader) (map (encode cpu) left) endOf
       ended =
-          subst (λ (r : Reader). Empties room (b .state .ring) r (map (encode cpu) left) endOf) (sym (i .reader-is))
+          subst (λ (r : Reader). Empties readOut room (b .state .ring) r (map (encode cpu) left) endOf) (sym (i .reader-is))
           (empties room (b .state) (w .ring) (i .holds) left (w .reader) (a .following) refl small)
 
       pub longest : LongestRun (λ (x : Numbered Event). length (encode cpu x)) capacity (b .since) left
@@ -110,7 +111,7 @@ module _ (cpu capacity : ℕ) where
       pub counted : endOf .handed ≤ endOf .last
       counted = following-finished size positive (w .ring) (w .reader) (a .following) .handed
 
-      abbrev pub emptied : Emptied cpu capacity room b
+      abbrev pub emptied : Emptied readOut cpu capacity room b
       emptied = record {
         events = left;
         end = endOf;

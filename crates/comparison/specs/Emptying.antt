@@ -1,12 +1,12 @@
--- One ring with its writer and its one reader, and what emptying it is: reading until EMPTY, each read by read's own definition, with the record
--- that the read before handed back.
+-- One ring with its writer and its one reader, and what emptying it is: reading until EMPTY, each read with the record that the read before handed
+-- back. Read is whatever answers; the operation's own is `readOut`.
 use Prim.Native.Nat.{ℕ, _+_, _≤_}
 use mathlib.Core.Path.{_≡_}
 use mathlib.Core.List.{List, [], _∷_, _++_, map}
 use lib.ListN.{length, drop}
 use Rattle.create_rules.specs.Create.{afterCreate}
 use Rattle.reader_rules.specs.Attach.{attached}
-use Rattle.reader_rules.specs.Read.{Outcome, readOut}
+use Rattle.reader_rules.specs.Read.{Outcome}
 use Rattle.reader_rules.specs.declared.Reader.{Reader}
 use Rattle.reader_rules.specs.declared.Reading.the-variants as reading
 use Rattle.history.specs.Runs.{LongestRun}
@@ -32,6 +32,10 @@ emission w t = record {
   since = w .since ++ acceptedOf (record { turn = t; answer = emitted (w .state) t .answer } ∷ []);
 }
 
+-- whatever reads: of the ring's bytes, the record and the output buffer it gives the answer, the record handed back and the buffer's bytes left
+abbrev pub Read : Type 0
+Read = List ℕ → Reader → List ℕ → Outcome
+
 -- what one read is lent: what the consumer wrote into bytes 4096 to 8191 before it, and an output buffer of `room` bytes or more
 pub record Lent (room : ℕ) : Type 0 where
   pub page : List ℕ
@@ -40,43 +44,43 @@ pub record Lent (room : ℕ) : Type 0 where
   pub roomy : room ≤ length out
 
 -- all that a read leaves: its answer, its record and the output buffer
-abbrev pub left-by : {room : ℕ} → List ℕ → Reader → Lent room → Outcome
-left-by s reader lent = readOut (consumed s (lent .page)) reader (lent .out)
+abbrev pub left-by : {room : ℕ} → Read → List ℕ → Reader → Lent room → Outcome
+left-by read s reader lent = read (consumed s (lent .page)) reader (lent .out)
 
 -- the event's bytes stand at the front of the output buffer, the answer gives their number, the rest of the buffer stays
-abbrev pub Hands : ℕ → List ℕ → Reader → List ℕ → Reader → Type 0
-Hands room s reader event next =
+abbrev pub Hands : Read → ℕ → List ℕ → Reader → List ℕ → Reader → Type 0
+Hands read room s reader event next =
     (lent : Lent room) →
-    left-by s reader lent ≡ record {
+    left-by read s reader lent ≡ record {
       answered = record { answer = reading.Event (length event); reader = next };
       out = event ++ drop (length event) (lent .out);
     }
 
 -- EMPTY: neither MOVED nor a refusal, and nothing written
-abbrev pub Ends : ℕ → List ℕ → Reader → Reader → Type 0
-Ends room s reader end =
+abbrev pub Ends : Read → ℕ → List ℕ → Reader → Reader → Type 0
+Ends read room s reader end =
     (lent : Lent room) →
-    left-by s reader lent ≡ record { answered = record { answer = reading.Empty; reader = end }; out = lent .out }
+    left-by read s reader lent ≡ record { answered = record { answer = reading.Empty; reader = end }; out = lent .out }
 
 -- reading until EMPTY hands out these events' bytes, one event at each read, and leaves the reader's record as `end`
-abbrev pub Empties : ℕ → List ℕ → Reader → List (List ℕ) → Reader → Type 0
-Empties room s reader [] end = Ends room s reader end
-Empties room s reader (event ∷ events) end = (next : Reader) × Hands room s reader event next × Empties room s next events end
+abbrev pub Empties : Read → ℕ → List ℕ → Reader → List (List ℕ) → Reader → Type 0
+Empties read room s reader [] end = Ends read room s reader end
+Empties read room s reader (event ∷ events) end = (next : Reader) × Hands read room s reader event next × Empties read room s next events end
 
 -- whatever its reads are lent, an emptying can end in no other way
 abbrev pub OneEnd : Type 0
 OneEnd =
-    (room : ℕ) (s : List ℕ) (reader : Reader) (events others : List (List ℕ)) (one other : Reader) →
-    Empties room s reader events one → Empties room s reader others other →
+    (read : Read) (room : ℕ) (s : List ℕ) (reader : Reader) (events others : List (List ℕ)) (one other : Reader) →
+    Empties read room s reader events one → Empties read room s reader others other →
     (events ≡ others) × (one ≡ other)
 
 -- an emptying of the ring as it stands: a read that always answers EMPTY breaks `longest`
-pub record Emptied (cpu capacity room : ℕ) (w : Watched) : Type 0 where
+pub record Emptied (read : Read) (cpu capacity room : ℕ) (w : Watched) : Type 0 where
   -- what it hands out, in order
   pub events : List (Numbered Event)
   pub end : Reader
   -- it ends, after as many reads as events and one that answers EMPTY
-  pub ended : Empties room (w .state .ring) (w .reader) (map (encode cpu) events) end
+  pub ended : Empties read room (w .state .ring) (w .reader) (map (encode cpu) events) end
   -- of the events accepted since the last emptying, the longest run of latest ones that fits
   pub longest : LongestRun (λ (x : Numbered Event). length (encode cpu x)) capacity (w .since) events
   -- missed is what the record says: "handed [goes up] by one, last becomes its sequence", for each event ..

@@ -1,2 +1,3 @@
 pub mod Emptying
 pub mod Comparison
+pub mod ShutOut3

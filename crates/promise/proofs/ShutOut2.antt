@@ -3,7 +3,7 @@
 use Prim.Native.Nat.{ℕ, _+_, _^_, _<_}
 use native.Mathlib.Omega.{arith}
 use mathlib.Core.Path.{_≡_, refl, sym, ap, _∙_}
-use mathlib.Core.Logic.{⊎-elim}
+use mathlib.Core.Logic.{_≢_, ⊎-elim}
 use mathlib.Core.Bool.{true, cond}
 use mathlib.Core.List.{List, [], _∷_, _++_, map}
 use lib.ListN.{length, drop, replicate, length-replicate}
@@ -27,20 +27,20 @@ use Rattle.promise.specs.Holds.{Holds}
 use Rattle.promise.specs.Demand2.{createdState, Promise, FreshBy2}
 use Rattle.promise.specs.Only2.{refusing, dropping, silent, moving, storingFirst, inventing, ShutOut2}
 use Rattle.promise.proofs.Encoding.{encode-length}
-use Rattle.promise.proofs.Created.{created-holds}
+use Rattle.promise.proofs.Created.{created-holds, fresh2}
 use Rattle.promise.proofs.Demand2.{same-calls}
 use Rattle.promise.proofs.Only2.{only2}
 
 -- ---- a ring of cpu 0 with 256 bytes, and events without payload
 
-fit : allowed 256 ≡ true
+pub fit : allowed 256 ≡ true
 unfolding allowed powerAmong
 fit = refl
 
-early : 0 < 2 ^ 64
+pub early : 0 < 2 ^ 64
 early = omega arith
 
-abbrev event : (time : ℕ) → time < 2 ^ 64 → Event
+abbrev pub event : (time : ℕ) → time < 2 ^ 64 → Event
 event time fits = record {
   timestamp = time;
   type = 0;
@@ -62,6 +62,12 @@ module _ (buffer : List ℕ) (long : length buffer ≡ 8192 + 256) (page : List 
   first = turn 0 early
 
   -- ---- one call
+
+  -- the operation doesn't refuse it
+  pub accepted-first : (r : Refusal) → emitted begun first .answer .outcome ≢ Refused r
+  unfolding madeBy
+  accepted-first r e =
+      ⊎-elim (λ h. omega (arith, h .1)) (λ h. omega (arith, h .3)) (fresh2 0 256 (omega arith) fit buffer long (first ∷ []) .1 .exact .0 (Refused r) .0 e)
 
   promised : (make : Emission) → FreshBy2 make → Promise 0 256 fresh (madeBy make begun (first ∷ [])) (afterBy make begun (first ∷ []))
   promised make meets = meets 0 256 (omega arith) fit buffer long (first ∷ []) .1

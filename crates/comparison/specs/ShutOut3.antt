@@ -1,5 +1,6 @@
 -- Wrong reads that don't meet the third demand.
 use Rattle.table_rules.specs.declared.Refusal.{Refusal}
+use Rattle.reader_rules.specs.Read.{untouched}
 use Rattle.reader_rules.specs.declared.Reading.the-variants as reading
 use Rattle.comparison.specs.Emptying.{Read}
 use Rattle.comparison.specs.Comparison.{DemandBy3}
@@ -10,7 +11,7 @@ idle s reader out = record { answered = record { answer = reading.Empty; reader 
 
 -- refuses everything
 abbrev pub refusing : Refusal → Read
-refusing r s reader out = record { answered = record { answer = reading.Refused r; reader = reader }; out = out }
+refusing r s reader out = untouched reader out r
 
 pub record ShutOut3 : Type 0 where
   pub answers-empty : DemandBy3 idle → ⊥

@@ -4,7 +4,7 @@ use Prim.Native.Nat.{ℕ, _+_, _^_, _<_}
 use native.Mathlib.Omega.{arith}
 use mathlib.Core.Path.{_≡_, refl, sym, ap, _∙_}
 use mathlib.Core.Logic.{_≢_, ⊎-elim}
-use mathlib.Core.Bool.{true, cond}
+use mathlib.Core.Bool.{Bool, true, cond}
 use mathlib.Core.List.{List, [], _∷_, _++_, map}
 use lib.ListN.{length, drop, replicate, length-replicate}
 use lib.Seq.{drop-at}
@@ -24,7 +24,7 @@ use Rattle.history.specs.Ring.{fresh, emit}
 use Rattle.history.specs.Calls.{after as afterCalls}
 use Rattle.promise.specs.Bytes.{Event, size, encode, State, Turn, Emission, madeBy, afterBy, after, emitted, called}
 use Rattle.promise.specs.Holds.{Holds}
-use Rattle.promise.specs.Demand2.{createdState, Promise, FreshBy2}
+use Rattle.promise.specs.Demand2.{Given, waiting, createdState, Promise, FreshBy2}
 use Rattle.promise.specs.Only2.{refusing, dropping, silent, moving, storingFirst, inventing, ShutOut2}
 use Rattle.promise.proofs.Encoding.{encode-length}
 use Rattle.promise.proofs.Created.{created-holds, fresh2}
@@ -51,6 +51,10 @@ event time fits = record {
   class-fits = omega arith;
 }
 
+-- no refusal is to be given for such an event on a fresh ring
+not-given : (r : Refusal) (waits : Bool) → Given 256 0 0 32 waits (Refused r) → ⊥
+not-given r waits given = ⊎-elim (λ h. omega (arith, h .1)) (λ h. omega (arith, h .3)) given
+
 module _ (buffer : List ℕ) (long : length buffer ≡ 8192 + 256) (page : List ℕ) (whole : length page ≡ 4096) where
   abbrev begun : State
   begun = createdState 0 buffer
@@ -66,16 +70,14 @@ module _ (buffer : List ℕ) (long : length buffer ≡ 8192 + 256) (page : List 
   -- the operation doesn't refuse it
   pub accepted-first : (r : Refusal) → emitted begun first .answer .outcome ≢ Refused r
   unfolding madeBy
-  accepted-first r e =
-      ⊎-elim (λ h. omega (arith, h .1)) (λ h. omega (arith, h .3)) (fresh2 0 256 (omega arith) fit buffer long (first ∷ []) .1 .exact .0 (Refused r) .0 e)
+  accepted-first r e = not-given r (waiting first) (fresh2 0 256 (omega arith) fit buffer long (first ∷ []) .1 .exact .0 (Refused r) .0 e)
 
   promised : (make : Emission) → FreshBy2 make → Promise 0 256 fresh (madeBy make begun (first ∷ [])) (afterBy make begun (first ∷ []))
   promised make meets = meets 0 256 (omega arith) fit buffer long (first ∷ []) .1
 
   refusing-shut : (r : Refusal) → FreshBy2 (refusing r) → ⊥
   unfolding madeBy
-  refusing-shut r meets =
-      ⊎-elim (λ e. omega (arith, e .1)) (λ e. omega (arith, e .3)) (promised (refusing r) meets .exact .0 (Refused r) .0 refl)
+  refusing-shut r meets = not-given r (waiting first) (promised (refusing r) meets .exact .0 (Refused r) .0 refl)
 
   dropping-shut : FreshBy2 dropping → ⊥
   unfolding madeBy dropped

@@ -27,13 +27,13 @@ fn reading_number(reading: Reading) -> u32
 }
 
 // A swap answers as an emission does, so that its number and its record go the same way.
-fn same_outcome(outcome: swap_rules::Outcome) -> Outcome
+fn same_outcome(outcome: swap_rules::SwapOutcome) -> Outcome
     ensures { λ r. ⌜ r ≡ sameOutcome outcome ⌝ }
 {
     match outcome {
-        swap_rules::Outcome::Done => Outcome::Done,
-        swap_rules::Outcome::Wake => Outcome::Wake,
-        swap_rules::Outcome::Refused(refusal) => Outcome::Refused(refusal),
+        swap_rules::SwapOutcome::Done => Outcome::Done,
+        swap_rules::SwapOutcome::Wake => Outcome::Wake,
+        swap_rules::SwapOutcome::Refused(refusal) => Outcome::Refused(refusal),
     }
 }
 

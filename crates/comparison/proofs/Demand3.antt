@@ -16,14 +16,14 @@ use Rattle.reader_rules.specs.Read.{readOut}
 use Rattle.reader_rules.specs.declared.Reader.{Reader}
 use Rattle.reader_rules.specs.declared.Attached.{Attached}
 use Rattle.reader_rules.proofs.Attaching.{attach-done}
-use Rattle.history.specs.Runs.{EndPart}
+use Rattle.run_rules.specs.Runs.{EndPart}
 use Rattle.history.specs.Ring.{Answer, Emitted, Ring, bytes, emit}
 use Rattle.history.specs.Reading.{unread}
 use Rattle.history.specs.Reading.{Emptied as AllRead}
 use Rattle.history.specs.Served.{Watched as Ideal, start, emission as idealEmission, emptying as idealEmptying}
 use Rattle.history.specs.Promise3.{NotRefused}
 use Rattle.history.specs.Promise3.{Promise3 as Ideal3, Fair as IdealFair}
-use Rattle.history.proofs.Runs.{latest-ends}
+use Rattle.run_rules.proofs.Runs.{latest-ends}
 use Rattle.history.proofs.Served.{Attended, emit-done, done, done-is}
 use Rattle.history.proofs.Demand3.{Both, both-start, both-emission, both-emptying, promise3}
 use Rattle.promise.specs.Bytes.{Event, size, encode, emitted, Turn, answerOf}

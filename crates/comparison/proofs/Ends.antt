@@ -5,7 +5,7 @@ use mathlib.Core.Path.{_≡_, refl, sym, ap, ap₂, _∙_, subst}
 use mathlib.Core.List.{List, [], _∷_}
 use lib.ListN.{length, take, drop, replicate, length-replicate}
 use lib.Seq.{take-append-seam}
-use Rattle.reader_rules.specs.Read.{Outcome}
+use Rattle.reader_rules.specs.Read.{AfterRead}
 use Rattle.reader_rules.specs.declared.Reader.{Reader}
 use Rattle.reader_rules.specs.declared.Reading.{Reading}
 use Rattle.reader_rules.specs.declared.Reading.the-variants.{Event, Empty, Moved, Refused}
@@ -32,21 +32,21 @@ events-in Empty = 0
 events-in Moved = 0
 events-in (Refused r) = 0
 
-abbrev pub count : Outcome → ℕ
+abbrev pub count : AfterRead → ℕ
 count o = events-in (o .answered .answer)
 
 -- the bytes that the answer points to
-abbrev handed : Outcome → List ℕ
+abbrev handed : AfterRead → List ℕ
 handed o = take (sizeIn (o .answered .answer)) (o .out)
 
 pub one-end : OneEnd
-one-end read room s reader [] [] one other a b = (refl, ap (λ (o : Outcome). o .answered .reader) (sym (a (lend room)) ∙ b (lend room)))
+one-end read room s reader [] [] one other a b = (refl, ap (λ (o : AfterRead). o .answered .reader) (sym (a (lend room)) ∙ b (lend room)))
 one-end read room s reader [] (y ∷ ys) one other a b = absurd (omega (arith, ap count (sym (a (lend room)) ∙ b .1 (lend room))))
 one-end read room s reader (x ∷ xs) [] one other a b = absurd (omega (arith, ap count (sym (a .1 (lend room)) ∙ b (lend room))))
 one-end read room s reader (x ∷ xs) (y ∷ ys) one other a b =
     let out : List ℕ = lend room .out in
     let same = sym (a .1 (lend room)) ∙ b .1 (lend room) in
-    let next : a .0 ≡ b .0 = ap (λ (o : Outcome). o .answered .reader) same in
+    let next : a .0 ≡ b .0 = ap (λ (o : AfterRead). o .answered .reader) same in
     let event : x ≡ y =
     sym (take-append-seam x (drop (length x) out)) ∙ ap handed same ∙ take-append-seam y (drop (length y) out) in
     let rest = one-end read room s (b .0) xs ys one other (subst (λ (r : Reader). Empties read room s r xs one) next (a .2)) (b .2) in

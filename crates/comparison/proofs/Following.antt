@@ -7,14 +7,14 @@ use lib.ListN.{length}
 use Rattle.page_rules.specs.Page.{pageOf}
 use Rattle.reader_rules.specs.Read.{readOut}
 use Rattle.reader_rules.specs.declared.Reader.{Reader}
-use Rattle.history.specs.Runs.{LongestRun}
-use Rattle.history.specs.Ring.{Numbered, Ring, newest, given, bytes, write, emit}
+use Rattle.run_rules.specs.Runs.{lastOf, LongestRun}
+use Rattle.history.specs.Ring.{sequenceOf, Numbered, Ring, given, bytes, write, emit}
 use Rattle.history.specs.Reading.{Following, unread}
 use Rattle.history.specs.Reading.{Reader as Place}
 use Rattle.history.specs.Reading.{Emptied as AllRead}
 use Rattle.history.specs.Calls.{Call, accepted, call}
 use Rattle.history.specs.Served.{Watched as Ideal, emission as idealEmission, emptying as idealEmptying}
-use Rattle.history.proofs.Runs.{longest-iff}
+use Rattle.run_rules.proofs.Runs.{longest-iff}
 use Rattle.history.proofs.Emptying.{past, finished, unread-past, following-past, following-finished}
 use Rattle.history.proofs.Served.{Attended, done-is}
 use Rattle.promise.specs.Bytes.{Event, size, encode, State, consumed, Turn, emitted, labelOf, Made, callOf}
@@ -77,7 +77,7 @@ module _ (cpu capacity : ℕ) where
     empties (x ∷ u) r f e small =
         let more : r .handed + 1 + length u ≡ r .handed + suc (length u) = omega arith in
         let end : finished size ring (past size ring r x) u ≡ finished size ring r (x ∷ u) =
-        λ i. record { read-pos = write size ring; last = newest (x .sequence) u; handed = more i } in (
+        λ i. record { read-pos = write size ring; last = lastOf sequenceOf (x .sequence) u; handed = more i } in (
           recordOf generation (past size ring r x),
           λ lent.
               read-one cpu capacity (consumed (s .ring) (lent .page)) (s .writer) ring
@@ -105,8 +105,8 @@ module _ (cpu capacity : ℕ) where
           subst₂ (λ (f : Numbered Event → ℕ) (all : List (Numbered Event)). LongestRun f capacity all left) (sym (encode-lengths cpu)) (sym (i .since-is))
           (longest-iff (bytes size) capacity (w .since) left .1 (a .left))
 
-      pub last : endOf .last ≡ newest (b .reader .last) left
-      last = ap (λ (r : Reader). newest (r .last) left) (sym (i .reader-is))
+      pub last : endOf .last ≡ lastOf sequenceOf (b .reader .last) left
+      last = ap (λ (r : Reader). lastOf sequenceOf (r .last) left) (sym (i .reader-is))
 
       pub counted : endOf .handed ≤ endOf .last
       counted = following-finished size positive (w .ring) (w .reader) (a .following) .handed

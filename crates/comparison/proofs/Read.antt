@@ -8,14 +8,14 @@ use Rattle.page_rules.specs.Page.{pageOf}
 use Rattle.page_rules.specs.declared.Page.{Page}
 use Rattle.writer_rules.specs.declared.Writer.{Writer}
 use Rattle.reader_rules.specs.Read.{readOut}
-use Rattle.reader_rules.specs.Read.{place as placeOn}
+use Rattle.reader_rules.specs.Read.{readingPlace}
 use Rattle.reader_rules.specs.declared.Reader.{Reader}
 use Rattle.reader_rules.specs.declared.Reading.the-variants as reading
-use Rattle.history.specs.Runs.{total}
-use Rattle.history.specs.Ring.{Numbered, Rising, Ring, newest, bytes, write}
+use Rattle.run_rules.specs.Runs.{Rising, lastOf, total}
+use Rattle.history.specs.Ring.{sequenceOf, Numbered, Ring, bytes, write}
 use Rattle.history.specs.Reading.{Following, unread, place}
 use Rattle.history.specs.Reading.{Reader as Place}
-use Rattle.history.proofs.Rising.{rising-length}
+use Rattle.run_rules.proofs.Rising.{rising-length}
 use Rattle.history.proofs.Reading.{following-splits}
 use Rattle.history.proofs.Emptying.{past, finished}
 use Rattle.promise.specs.Bytes.{Event, size, encode}
@@ -35,7 +35,7 @@ module _ (cpu capacity : ℕ) (s : List ℕ) (w : Writer) (ring : Ring Event) (h
   abbrev reader : Reader
   reader = recordOf generation r
 
-  there : placeOn p reader ≡ place size ring r
+  there : readingPlace p reader ≡ place size ring r
   there = omega (arith, h .tail-is)
 
   behind : reader .«read_pos» ≤ write size ring
@@ -44,7 +44,7 @@ module _ (cpu capacity : ℕ) (s : List ℕ) (w : Writer) (ring : Ring Event) (h
   pub read-none : unread size ring r ≡ [] → p .generation ≡ generation
       → readOut s reader out ≡ record { answered = record { answer = reading.Empty; reader = recordOf generation (finished size ring r []) }; out = out }
   read-none e same =
-      let last : placeOn p reader ≡ write size ring = omega (arith, there, f .placed, ap (total (bytes size)) e) in
+      let last : readingPlace p reader ≡ write size ring = omega (arith, there, f .placed, ap (total (bytes size)) e) in
       let none : r .handed ≡ r .handed + 0 = omega arith in
       reads-empty cpu capacity s w ring h reader out last behind (f .handed) same
       ∙ (λ i. record {
@@ -56,12 +56,12 @@ module _ (cpu capacity : ℕ) (s : List ℕ) (w : Writer) (ring : Ring Event) (h
       })
 
   module _ (x : Numbered Event) (others : List (Numbered Event)) (e : unread size ring r ≡ x ∷ others) where
-    rising : Rising (r .last) (x ∷ others)
-    rising = subst (λ (l : List (Numbered Event)). Rising (r .last) l) e (f .unseen)
+    rising : Rising sequenceOf (r .last) (x ∷ others)
+    rising = subst (λ (l : List (Numbered Event)). Rising sequenceOf (r .last) l) e (f .unseen)
 
     known : x .sequence < 2 ^ 64
     known =
-        omega (arith, f .known, ap (newest (r .last)) e, h .holding .spendable, rising-length (x .sequence) others (rising .1))
+        omega (arith, f .known, ap (lastOf sequenceOf (r .last)) e, h .holding .spendable, rising-length sequenceOf (x .sequence) others (rising .1))
 
     pub read-one : size (x .event) ≤ length out
         → readOut s reader out ≡ record {

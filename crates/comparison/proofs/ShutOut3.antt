@@ -5,16 +5,16 @@ use mathlib.Core.Path.{_≡_, refl, ap, _∙_, subst}
 use mathlib.Core.List.{List, [], _∷_, _++_, map}
 use lib.ListN.{length, replicate, length-replicate}
 use Rattle.reader_rules.specs.declared.Reader.{Reader}
-use Rattle.history.specs.Runs.{latest}
+use Rattle.run_rules.specs.Runs.{latest}
 use Rattle.history.specs.Ring.{Numbered, Answer}
 use Rattle.history.specs.Calls.{accepts}
-use Rattle.history.proofs.Runs.{latest-fits, longest-latest}
+use Rattle.run_rules.proofs.Runs.{latest-fits, longest-latest}
 use Rattle.promise.specs.Bytes.{Event, encode, consumed, emitted}
 use Rattle.promise.proofs.Encoding.{encode-length}
 use Rattle.promise.proofs.ShutOut2.{fit, early, event, accepted-first}
 use Rattle.comparison.specs.Emptying.{Watched, started, emission, Read, Empties, Emptied}
 use Rattle.comparison.specs.Comparison.{Consumer, turn, Emission, Emptying, Fair, NoLess, DemandBy3}
-use Rattle.comparison.specs.ShutOut3.{idle, refusing, ShutOut3}
+use Rattle.comparison.specs.ShutOut3.{idle, refusingRead, ShutOut3}
 use Rattle.comparison.proofs.Ends.{lend, count}
 
 module _ (buffer : List ℕ) (long : length buffer ≡ 8192 + 256) (consumer : Consumer) (any : Reader) where
@@ -64,7 +64,7 @@ module _ (buffer : List ℕ) (long : length buffer ≡ 8192 + 256) (consumer : C
 pub shut-out3 : ShutOut3
 shut-out3 = record {
   answers-empty = shut buffer long consumer any idle (λ s reader out. refl);
-  refuses = λ r. shut buffer long consumer any (refusing r) (λ s reader out. refl);
+  refuses = λ r. shut buffer long consumer any (refusingRead r) (λ s reader out. refl);
 }
   where
     buffer : List ℕ

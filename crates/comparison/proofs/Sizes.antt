@@ -4,7 +4,7 @@ use mathlib.Core.Path.{ap, _∙_, subst}
 use mathlib.Core.List.{List, [], _∷_, _++_, map}
 use Rattle.event_rules.specs.Run.{joined}
 use Rattle.event_rules.proofs.Front.{joined-append}
-use Rattle.history.specs.Runs.{EndPart}
+use Rattle.run_rules.specs.Runs.{EndPart}
 use Rattle.history.specs.Ring.{Numbered, Answer, Done, Dropped, Refused}
 use Rattle.history.specs.Calls.{accepts}
 use Rattle.promise.specs.Bytes.{Event, size}

@@ -6,11 +6,11 @@ use mathlib.Core.List.{List, [], _∷_, _++_, map}
 use lib.ListN.{length, drop}
 use Rattle.create_rules.specs.Create.{afterCreate}
 use Rattle.reader_rules.specs.Attach.{attached}
-use Rattle.reader_rules.specs.Read.{Outcome}
+use Rattle.reader_rules.specs.Read.{AfterRead}
 use Rattle.reader_rules.specs.declared.Reader.{Reader}
 use Rattle.reader_rules.specs.declared.Reading.the-variants as reading
-use Rattle.history.specs.Runs.{LongestRun}
-use Rattle.history.specs.Ring.{Numbered, newest}
+use Rattle.run_rules.specs.Runs.{lastOf, LongestRun}
+use Rattle.history.specs.Ring.{sequenceOf, Numbered}
 use Rattle.promise.specs.Bytes.{Event, encode, State, consumed, Turn, emitted, left, acceptedOf}
 use Rattle.promise.specs.Demand2.{createdState}
 
@@ -34,7 +34,7 @@ emission w t = record {
 
 -- whatever reads: of the ring's bytes, the record and the output buffer it gives the answer, the record handed back and the buffer's bytes left
 abbrev pub Read : Type 0
-Read = List ℕ → Reader → List ℕ → Outcome
+Read = List ℕ → Reader → List ℕ → AfterRead
 
 -- what one read is lent: what the consumer wrote into bytes 4096 to 8191 before it, and an output buffer of `room` bytes or more
 pub record Lent (room : ℕ) : Type 0 where
@@ -44,7 +44,7 @@ pub record Lent (room : ℕ) : Type 0 where
   pub roomy : room ≤ length out
 
 -- all that a read leaves: its answer, its record and the output buffer
-abbrev pub left-by : {room : ℕ} → Read → List ℕ → Reader → Lent room → Outcome
+abbrev pub left-by : {room : ℕ} → Read → List ℕ → Reader → Lent room → AfterRead
 left-by read s reader lent = read (consumed s (lent .page)) reader (lent .out)
 
 -- the event's bytes stand at the front of the output buffer, the answer gives their number, the rest of the buffer stays
@@ -84,7 +84,7 @@ pub record Emptied (read : Read) (cpu capacity room : ℕ) (w : Watched) : Type 
   -- of the events accepted since the last emptying, the longest run of latest ones that fits
   pub longest : LongestRun (λ (x : Numbered Event). length (encode cpu x)) capacity (w .since) events
   -- missed is what the record says: "handed [goes up] by one, last becomes its sequence", for each event ..
-  pub last : end .last ≡ newest (w .reader .last) events
+  pub last : end .last ≡ lastOf sequenceOf (w .reader .last) events
   pub handed : end .handed ≡ w .reader .handed + length events
   -- .. and last minus handed is a true difference
   pub counted : end .handed ≤ end .last

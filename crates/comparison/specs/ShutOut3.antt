@@ -10,9 +10,9 @@ abbrev pub idle : Read
 idle s reader out = record { answered = record { answer = reading.Empty; reader = reader }; out = out }
 
 -- refuses everything
-abbrev pub refusing : Refusal → Read
-refusing r s reader out = untouched reader out r
+abbrev pub refusingRead : Refusal → Read
+refusingRead r s reader out = untouched reader out r
 
 pub record ShutOut3 : Type 0 where
   pub answers-empty : DemandBy3 idle → ⊥
-  pub refuses : (r : Refusal) → DemandBy3 (refusing r) → ⊥
+  pub refuses : (r : Refusal) → DemandBy3 (refusingRead r) → ⊥

@@ -29,7 +29,7 @@ module _ (cpu capacity : ℕ) (narrow : cpu < 2 ^ 16) (fit : allowed capacity �
   clean = blank cpu capacity 1
 
   abbrev page : Page
-  page = record { «cpu_id» = cpu; capacity = capacity; generation = 1; «write_pos» = 0; «tail_pos» = 0; «futex_counter» = 0; «need_wake» = 0 }
+  page = record { «cpu_id» = cpu; capacity = capacity; generation = 1; «write_pos» = 0; «tail_pos» = 0 }
 
   blank-opens : Sound clean page
   blank-opens = blank-sound cpu capacity 1 narrow fit (omega arith) (omega arith)

@@ -7,10 +7,10 @@ use lib.ListN.{length, getD}
 use Rattle.page_rules.specs.Page.{pageOf}
 use Rattle.event_rules.specs.Run.{joined}
 use Rattle.emit_rules.specs.declared.Outcome.{Outcome}
-use Rattle.history.specs.Runs.{latest}
+use Rattle.run_rules.specs.Runs.{latest}
 use Rattle.history.specs.Ring.{Numbered, write}
 use Rattle.history.specs.Calls.{Call, uses, used, droppedOf, accepted}
-use Rattle.history.proofs.Runs.{longest-latest}
+use Rattle.run_rules.proofs.Runs.{longest-latest}
 use Rattle.promise.specs.Bytes.{Event, size, taken, encode, Turn, Made, answerOf, callOf, acceptedOf}
 use Rattle.promise.specs.Demand2.{Given, waiting, Exact, Decided2}
 

@@ -8,7 +8,7 @@ use lib.ListN.{length}
 use Rattle.page_rules.specs.Page.{pageOf}
 use Rattle.page_rules.specs.Wake.{wakes}
 use Rattle.page_rules.proofs.Sound.{sound-length}
-use Rattle.history.specs.Runs.{LongestRun}
+use Rattle.run_rules.specs.Runs.{LongestRun}
 use Rattle.history.specs.Ring.{Numbered, Ring, given, bytes, write, emit}
 use Rattle.history.specs.Calls.{Call, uses, used, droppedOf, accepted, call, calls}
 use Rattle.history.specs.Calls.{after as afterCalls}

@@ -6,19 +6,17 @@ use mathlib.Core.List.{List, [], _∷_, _++_, map}
 use lib.ListN.{length, take, drop, length-map}
 use lib.Seq.{take-append-seam, drop-at}
 use Rattle.event_rules.specs.Event.{Fit, sequence}
-use Rattle.event_rules.specs.Run.{joined, Each, Rising, Whole, lastOf}
+use Rattle.event_rules.specs.Run.{joined, Each, Whole}
 use Rattle.event_rules.specs.Walk.{walkFrom, overflow}
 use Rattle.event_rules.specs.declared.Walk.the-variants.{Room}
 use Rattle.event_rules.proofs.Made.{made-length, made-says}
 use Rattle.event_rules.proofs.Front.{made-one, length-joined, joined-append, joined-more}
 use Rattle.event_rules.proofs.Overflow.{overflow-none, overflow-more, walk-whole}
-use Rattle.inspect_rules.specs.Inspect.{firstOf}
-use Rattle.history.specs.Runs.{total, latest, older}
-use Rattle.history.specs.Ring.{Numbered, newest, bytes}
-use Rattle.history.specs.Ring.{Rising as RisingNumbers}
-use Rattle.history.proofs.Runs.{by-le, older-fits, older-over, older-latest}
-use Rattle.history.proofs.Rising.{rising-length}
-use Rattle.promise.specs.Bytes.{Event, size, encode, oldest}
+use Rattle.run_rules.specs.Runs.{Rising, lastOf, firstOf, total, latest, older}
+use Rattle.history.specs.Ring.{sequenceOf, Numbered, bytes}
+use Rattle.run_rules.proofs.Runs.{by-le, older-fits, older-over, older-latest}
+use Rattle.run_rules.proofs.Rising.{rising-length}
+use Rattle.promise.specs.Bytes.{Event, size, encode}
 
 pub map-append : {A B : Type 0} (f : A → B) (xs ys : List A) → map f (xs ++ ys) ≡ map f xs ++ map f ys
 map-append f [] ys = refl
@@ -61,12 +59,12 @@ module _ (cpu : ℕ) where
     encode-sequence x small given =
         made-says cpu (x .sequence) (x .event .timestamp) (x .event .type) (x .event .class) (x .event .payload) (fit narrow x small given) .sequence-is
 
-    pub encode-whole : (low : ℕ) (xs : List (Numbered Event)) → total (bytes size) xs < 2 ^ 32 → RisingNumbers low xs → newest low xs < 2 ^ 64
-        → Whole cpu low (map (encode cpu) xs) × (lastOf low (map (encode cpu) xs) ≡ newest low xs)
+    pub encode-whole : (low : ℕ) (xs : List (Numbered Event)) → total (bytes size) xs < 2 ^ 32 → Rising sequenceOf low xs → lastOf sequenceOf low xs < 2 ^ 64
+        → Whole cpu low (map (encode cpu) xs) × (lastOf sequence low (map (encode cpu) xs) ≡ lastOf sequenceOf low xs)
     unfolding encode
     encode-whole low [] small rise known = ((tt, tt), refl)
     encode-whole low (x ∷ xs) small rise known =
-        let given : x .sequence < 2 ^ 64 = omega (arith, rising-length (x .sequence) xs (rise .1)) in
+        let given : x .sequence < 2 ^ 64 = omega (arith, rising-length sequenceOf (x .sequence) xs (rise .1)) in
         let rest = encode-whole (x .sequence) xs (omega arith) (rise .1) known in
         let same : sequence (encode cpu x) ≡ x .sequence = encode-sequence x (omega arith) given in (
           (
@@ -74,15 +72,15 @@ module _ (cpu : ℕ) where
               made-one cpu (x .sequence) (x .event .timestamp) (x .event .type) (x .event .class) (x .event .payload) (fit narrow x (omega arith) given),
               rest .0 .0,
             ),
-            (omega (arith, rise .0), subst (λ (n : ℕ). Rising n (map (encode cpu) xs)) (sym same) (rest .0 .1)),
+            (omega (arith, rise .0), subst (λ (n : ℕ). Rising sequence n (map (encode cpu) xs)) (sym same) (rest .0 .1)),
           ),
-          ap (λ (n : ℕ). lastOf n (map (encode cpu) xs)) same ∙ rest .1,
+          ap (λ (n : ℕ). lastOf sequence n (map (encode cpu) xs)) same ∙ rest .1,
         )
 
-    pub encode-first : (xs : List (Numbered Event)) → total (bytes size) xs < 2 ^ 32 → RisingNumbers 0 xs → newest 0 xs < 2 ^ 64
-        → firstOf (map (encode cpu) xs) ≡ oldest xs
+    pub encode-first : (xs : List (Numbered Event)) → total (bytes size) xs < 2 ^ 32 → Rising sequenceOf 0 xs → lastOf sequenceOf 0 xs < 2 ^ 64
+        → firstOf sequence (map (encode cpu) xs) ≡ firstOf sequenceOf xs
     encode-first [] small rise known = refl
-    encode-first (x ∷ xs) small rise known = encode-sequence x (omega arith) (omega (arith, rising-length (x .sequence) xs (rise .1)))
+    encode-first (x ∷ xs) small rise known = encode-sequence x (omega arith) (omega (arith, rising-length sequenceOf (x .sequence) xs (rise .1)))
 
   -- ---- the walk
 

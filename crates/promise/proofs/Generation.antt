@@ -23,7 +23,7 @@ use Rattle.event_rules.specs.declared.Walk.{Walk}
 use Rattle.event_rules.specs.declared.Walk.the-variants as walks
 use Rattle.look_rules.specs.Live.{live}
 use Rattle.writer_rules.specs.declared.Writer.{Writer}
-use Rattle.emit_rules.specs.Emit.{After, refuse, writerRows, tooLarge, dropped, tooFar, disagrees, eventOf, stored, accepted, ended, placed, emittedOn, emission}
+use Rattle.emit_rules.specs.Emit.{AfterEmit, refuse, writerRows, tooLarge, dropped, tooFar, disagrees, eventOf, stored, acceptance, ended, placed, emittedOn, emission}
 use Rattle.emit_rules.specs.declared.Label.{Label}
 use Rattle.table_rules.proofs.Laws.{answers}
 use Rattle.history.specs.Ring.{Ring, emit}
@@ -37,11 +37,11 @@ cond-either P true x y px py = px
 cond-either P false x y px py = py
 
 module _ (s : List ℕ) (w : Writer) where
-  abbrev Same : After → Type 0
+  abbrev Same : AfterEmit → Type 0
   Same a = number (a .ring) 32 8 ≡ number s 32 8
 
-  accepted-same : (p : Page) (event : List ℕ) (tail passed : ℕ) → Same (accepted s p w event tail passed)
-  unfolding accepted stored
+  accepted-same : (p : Page) (event : List ℕ) (tail passed : ℕ) → Same (acceptance s p w event tail passed)
+  unfolding acceptance stored
   accepted-same p event tail passed =
       notified-number (stored s p event tail) 32 8 (inl (omega arith))
       ∙ beside (storeAt s (p .capacity) (p .«write_pos») event) (positions (p .«write_pos» + length event) tail) 32 8 tt
@@ -51,7 +51,7 @@ module _ (s : List ℕ) (w : Writer) where
   ended-same p event walks.NoRoom = refl
   ended-same p event (walks.Damaged position) = refl
   ended-same p event (walks.Room tail passed) =
-      cond-either Same (disagrees w passed) (refuse s w refusal.Disagree) (accepted s p w event tail passed) refl (accepted-same p event tail passed)
+      cond-either Same (disagrees w passed) (refuse s w refusal.Disagree) (acceptance s p w event tail passed) refl (accepted-same p event tail passed)
 
   module _ (label : Label) (payload : List ℕ) where
     placed-same : (p : Page) → Same (placed s p w label payload)
@@ -62,7 +62,7 @@ module _ (s : List ℕ) (w : Writer) where
     on-page-same : (p : Page) → Same (emittedOn s p w label payload)
     unfolding emittedOn dropped
     on-page-same p =
-        let stores : After = first ((tooFar p (32 + length payload), refusal.Far) ∷ []) (refuse s w) (placed s p w label payload) in
+        let stores : AfterEmit = first ((tooFar p (32 + length payload), refusal.Far) ∷ []) (refuse s w) (placed s p w label payload) in
         answers Same (refuse s w) (cond (tooLarge p (32 + length payload)) (dropped s w) stores) (λ r. refl)
         (cond-either Same (tooLarge p (32 + length payload)) (dropped s w) stores refl
         (answers Same (refuse s w) (placed s p w label payload) (λ r. refl) (placed-same p) ((tooFar p (32 + length payload), refusal.Far) ∷ [])))

@@ -5,22 +5,24 @@ use mathlib.Core.Path.{_≡_, sym, ap, _∙_, subst}
 use mathlib.Core.Bool.{false}
 use mathlib.Core.List.{List, map}
 use lib.ListN.{length, length-map}
+use Rattle.run_rules.specs.Runs.{lastOf, firstOf}
 use Rattle.capacity_rules.proofs.Laws.{allowed-range}
 use Rattle.page_rules.specs.Page.{pageOf, opened}
 use Rattle.page_rules.specs.declared.Page.{Page}
 use Rattle.page_rules.specs.declared.Opened.the-variants as opens
 use Rattle.page_rules.proofs.Sound.{opens-sound}
-use Rattle.event_rules.specs.Run.{Whole, lastOf}
+use Rattle.event_rules.specs.Event.{sequence}
+use Rattle.event_rules.specs.Run.{Whole}
 use Rattle.writer_rules.specs.Writer.{wrongWriter}
 use Rattle.writer_rules.specs.declared.Writer.{Writer}
 use Rattle.writer_rules.proofs.Laws.{not-wrong}
-use Rattle.inspect_rules.specs.Inspect.{firstOf, summary, inspected}
+use Rattle.inspect_rules.specs.Inspect.{summary, inspected}
 use Rattle.inspect_rules.specs.declared.Survey.{Survey}
 use Rattle.inspect_rules.specs.declared.Inspected.the-variants as answers
 use Rattle.inspect_rules.proofs.Surveys.{survey-all}
 use Rattle.inspect_rules.proofs.Answers.{inspected-whole}
-use Rattle.history.specs.Ring.{Ring, newest}
-use Rattle.promise.specs.Bytes.{Event, encode, oldest}
+use Rattle.history.specs.Ring.{sequenceOf, Ring}
+use Rattle.promise.specs.Bytes.{Event, encode}
 use Rattle.promise.specs.Holds.{Holds}
 use Rattle.promise.proofs.Encoding.{encode-whole, encode-first}
 
@@ -39,18 +41,18 @@ module _ (cpu capacity : ℕ) (s : List ℕ) (w : Writer) (ring : Ring Event) (h
         overwritten-le = omega (arith, h .last-is, h .dropped-is, h .overwritten-is, h .holding .counts);
       })
 
-  pub holds-whole : Whole cpu 0 (map (encode cpu) (ring .kept)) × (lastOf 0 (map (encode cpu) (ring .kept)) ≡ newest 0 (ring .kept))
+  pub holds-whole : Whole cpu 0 (map (encode cpu) (ring .kept)) × (lastOf sequence 0 (map (encode cpu) (ring .kept)) ≡ lastOf sequenceOf 0 (ring .kept))
   holds-whole =
       encode-whole cpu (h .narrow) 0 (ring .kept) (omega (arith, h .holding .fits, holds-range)) (h .holding .rising)
       (omega (arith, h .holding .known, h .holding .spendable))
 
   -- count, first and last sequence of the kept events
-  pub holds-inspected : inspected s ≡ answers.Whole (record { count = length (ring .kept); first = oldest (ring .kept); last = newest 0 (ring .kept) })
+  pub holds-inspected : inspected s ≡ answers.Whole (record { count = length (ring .kept); first = firstOf sequenceOf (ring .kept); last = lastOf sequenceOf 0 (ring .kept) })
   holds-inspected =
       let events : List (List ℕ) = map (encode cpu) (ring .kept) in
       let whole : Whole (pageOf s .«cpu_id») 0 events = subst (λ (n : ℕ). Whole n 0 events) (sym (h .named)) (holds-whole .0) in
       let all = survey-all s (pageOf s) (h .sound .order) events (h .bytes-are) whole in
-      let first : firstOf events ≡ oldest (ring .kept) =
+      let first : firstOf sequence events ≡ firstOf sequenceOf (ring .kept) =
       encode-first cpu (h .narrow) (ring .kept) (omega (arith, h .holding .fits, holds-range)) (h .holding .rising)
       (omega (arith, h .holding .known, h .holding .spendable)) in
       let count : length events ≡ length (ring .kept) = length-map (ring .kept) (encode cpu) in

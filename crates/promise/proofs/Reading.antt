@@ -17,13 +17,13 @@ use Rattle.look_rules.specs.Live.{rest, live}
 use Rattle.look_rules.proofs.Laws.{rest-drop, rest-take}
 use Rattle.writer_rules.specs.declared.Writer.{Writer}
 use Rattle.reader_rules.specs.Reader.{movedTo}
-use Rattle.reader_rules.specs.Read.{place, handedOut, readOut}
+use Rattle.reader_rules.specs.Read.{readingPlace, handedOut, readOut}
 use Rattle.reader_rules.specs.declared.Reader.{Reader}
 use Rattle.reader_rules.specs.declared.Reading.the-variants as reading
 use Rattle.reader_rules.proofs.Cases.{read-empty, read-event}
-use Rattle.history.specs.Runs.{total}
+use Rattle.run_rules.specs.Runs.{total}
 use Rattle.history.specs.Ring.{Numbered, Ring, bytes, write}
-use Rattle.history.proofs.Runs.{total-append}
+use Rattle.run_rules.proofs.Runs.{total-append}
 use Rattle.promise.specs.Bytes.{Event, size, encode}
 use Rattle.promise.specs.Holds.{Holds}
 use Rattle.promise.proofs.Encoding.{map-append, encode-length, encode-sequence, joined-length}
@@ -34,7 +34,7 @@ module _ (cpu capacity : ℕ) (s : List ℕ) (w : Writer) (ring : Ring Event) (h
   p = pageOf s
 
   -- a reader with no event left
-  pub reads-empty : (reader : Reader) (out : List ℕ) → place p reader ≡ write size ring → reader .«read_pos» ≤ write size ring
+  pub reads-empty : (reader : Reader) (out : List ℕ) → readingPlace p reader ≡ write size ring → reader .«read_pos» ≤ write size ring
       → reader .handed ≤ reader .last → p .generation ≡ reader .generation
       → readOut s reader out ≡ record { answered = record { answer = reading.Empty; reader = movedTo (write size ring) reader }; out = out }
   reads-empty reader out end behind counted same =
@@ -86,7 +86,7 @@ module _ (cpu capacity : ℕ) (s : List ℕ) (w : Writer) (ring : Ring Event) (h
           ∙ encode-sequence cpu (h .narrow) x (omega (arith, sizes, h .holding .fits, holds-range cpu capacity s w ring h)) known
 
       -- what a reader at its place is handed
-      pub reads-event : (reader : Reader) (out : List ℕ) → place p reader ≡ at → reader .«read_pos» ≤ write size ring → reader .handed ≤ reader .last
+      pub reads-event : (reader : Reader) (out : List ℕ) → readingPlace p reader ≡ at → reader .«read_pos» ≤ write size ring → reader .handed ≤ reader .last
           → reader .last < x .sequence → size (x .event) ≤ length out
           → readOut s reader out
           ≡ record {
@@ -97,12 +97,12 @@ module _ (cpu capacity : ℕ) (s : List ℕ) (w : Writer) (ring : Ring Event) (h
             out = encode cpu x ++ drop (size (x .event)) out;
           }
       reads-event reader out stands behind counted above long =
-          let here : place p reader ≡ at = stands in
-          let well : wellFormed (p .«cpu_id») (rest s p (place p reader)) ≡ true =
+          let here : readingPlace p reader ≡ at = stands in
+          let well : wellFormed (p .«cpu_id») (rest s p (readingPlace p reader)) ≡ true =
           ap₂ (λ (n : ℕ) (bs : List ℕ). wellFormed n bs) (h .named) (ap (rest s p) here ∙ rest-is)
           ∙ well-front cpu (encode cpu x) whole (joined (map (encode cpu) more)) in
-          let above-it : reader .last < sequence (rest s p (place p reader)) = omega (arith, above, ap (λ (k : ℕ). sequence (rest s p k)) here, sequence-is) in
-          let room : eventSize (rest s p (place p reader)) ≤ length out = omega (arith, long, ap (λ (k : ℕ). eventSize (rest s p k)) here, size-is) in
+          let above-it : reader .last < sequence (rest s p (readingPlace p reader)) = omega (arith, above, ap (λ (k : ℕ). sequence (rest s p k)) here, sequence-is) in
+          let room : eventSize (rest s p (readingPlace p reader)) ≤ length out = omega (arith, long, ap (λ (k : ℕ). eventSize (rest s p k)) here, size-is) in
           let front-is : take (eventSize (rest s p at)) (rest s p at) ≡ encode cpu x =
           ap (λ (bs : List ℕ). take (eventSize bs) bs) rest-is ∙ take-front cpu (encode cpu x) whole (joined (map (encode cpu) more)) in
           read-event s reader out p (h .sound)

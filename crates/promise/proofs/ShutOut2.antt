@@ -19,13 +19,13 @@ use Rattle.look_rules.specs.Live.{live}
 use Rattle.writer_rules.specs.declared.Writer.{Writer}
 use Rattle.emit_rules.specs.Emit.{dropped}
 use Rattle.emit_rules.specs.declared.Outcome.the-variants.{Dropped, Refused}
-use Rattle.history.specs.Runs.{latest, older}
+use Rattle.run_rules.specs.Runs.{latest, older}
 use Rattle.history.specs.Ring.{fresh, emit}
 use Rattle.history.specs.Calls.{after as afterCalls}
 use Rattle.promise.specs.Bytes.{Event, size, encode, State, Turn, Emission, madeBy, afterBy, after, emitted, called}
 use Rattle.promise.specs.Holds.{Holds}
 use Rattle.promise.specs.Demand2.{Given, waiting, createdState, Promise, FreshBy2}
-use Rattle.promise.specs.Only2.{refusing, dropping, silent, moving, storingFirst, inventing, ShutOut2}
+use Rattle.promise.specs.Only2.{refusingEmission, dropping, silent, moving, storingFirst, inventing, ShutOut2}
 use Rattle.promise.proofs.Encoding.{encode-length}
 use Rattle.promise.proofs.Created.{created-holds, fresh2}
 use Rattle.promise.proofs.Demand2.{same-calls}
@@ -75,9 +75,9 @@ module _ (buffer : List ℕ) (long : length buffer ≡ 8192 + 256) (page : List 
   promised : (make : Emission) → FreshBy2 make → Promise 0 256 fresh (madeBy make begun (first ∷ [])) (afterBy make begun (first ∷ []))
   promised make meets = meets 0 256 (omega arith) fit buffer long (first ∷ []) .1
 
-  refusing-shut : (r : Refusal) → FreshBy2 (refusing r) → ⊥
+  refusing-shut : (r : Refusal) → FreshBy2 (refusingEmission r) → ⊥
   unfolding madeBy
-  refusing-shut r meets = not-given r (waiting first) (promised (refusing r) meets .exact .0 (Refused r) .0 refl)
+  refusing-shut r meets = not-given r (waiting first) (promised (refusingEmission r) meets .exact .0 (Refused r) .0 refl)
 
   dropping-shut : FreshBy2 dropping → ⊥
   unfolding madeBy dropped

@@ -8,7 +8,7 @@ use mathlib.Core.List.{List, _++_}
 use lib.ListN.{length, drop}
 use Rattle.table_rules.specs.declared.Refusal.the-variants.{Spent, Far}
 use Rattle.page_rules.specs.Page.{pageOf}
-use Rattle.page_rules.specs.Wake.{wakes}
+use Rattle.page_rules.specs.Wake.{needWake, wakes}
 use Rattle.page_rules.specs.declared.Page.{Page}
 use Rattle.event_rules.specs.Event.{eventBytes}
 use Rattle.event_rules.specs.Walk.{walkFrom}
@@ -16,13 +16,13 @@ use Rattle.event_rules.specs.declared.Walk.the-variants.{Room}
 use Rattle.look_rules.specs.Live.{live}
 use Rattle.writer_rules.specs.Writer.{wrongWriter}
 use Rattle.writer_rules.specs.declared.Writer.{Writer}
-use Rattle.emit_rules.specs.Emit.{After, refuse, dropped, eventOf, told, accepted, emittedOn, emission}
+use Rattle.emit_rules.specs.Emit.{AfterEmit, refuse, dropped, eventOf, accepting, acceptance, emittedOn, emission}
 use Rattle.emit_rules.proofs.Laws.{event-length}
 use Rattle.emit_rules.proofs.Cases.{on-sound, spent, is-dropped, too-far, is-placed, agreed}
-use Rattle.history.specs.Runs.{total, latest, older}
+use Rattle.run_rules.specs.Runs.{total, latest, older}
 use Rattle.history.specs.Ring.{Numbered, Ring, Done, Dropped, Refused, Emitted, bytes, write, dropping, new, storing, emit}
 use Rattle.history.specs.Holding.{Holding}
-use Rattle.history.proofs.Runs.{total-append, latest-room, older-latest}
+use Rattle.run_rules.proofs.Runs.{total-append, latest-room, older-latest}
 use Rattle.history.proofs.Emission.{emit-cases, passed-counted, storing-write}
 use Rattle.history.proofs.Demand2.{one2}
 use Rattle.promise.specs.Bytes.{Event, size, encode, labelOf, answerOf}
@@ -33,17 +33,17 @@ use Rattle.emit_rules.proofs.Stored.{stored-cpu, stored-capacity, stored-write,
 use Rattle.promise.proofs.Holds.{holds-counted, holds-whole}
 
 -- what an emission leaves, beside what it leaves on the ring without bytes; `waits` says whether the consumer does
-pub record Stepped (cpu capacity : ℕ) (waits : Bool) (ring : Ring Event) (e : Event) (a : After) (m : Emitted (Ring Event)) : Type 0 where
+pub record Stepped (cpu capacity : ℕ) (waits : Bool) (ring : Ring Event) (e : Event) (a : AfterEmit) (m : Emitted (Ring Event)) : Type 0 where
   pub answer : answerOf (a .answer .outcome) ≡ m .answer
   pub given : Given capacity (ring .last) (write size ring) (size e) waits (a .answer .outcome)
   pub holds : Holds cpu capacity (a .ring) (a .answer .writer) (m .next)
 
 -- Wake exactly if the consumer waits
-told-answer : (b : Bool) → answerOf (told b) ≡ Done
+told-answer : (b : Bool) → answerOf (accepting b) ≡ Done
 told-answer true = refl
 told-answer false = refl
 
-told-given : (capacity last write size : ℕ) (b : Bool) → Acceptable capacity last write size → Given capacity last write size b (told b)
+told-given : (capacity last write size : ℕ) (b : Bool) → Acceptable capacity last write size → Given capacity last write size b (accepting b)
 told-given capacity last write size true h = (refl, h)
 told-given capacity last write size false h = (refl, h)
 
@@ -52,9 +52,9 @@ module _ (cpu capacity : ℕ) (s : List ℕ) (w : Writer) (ring : Ring Event) (e
   p = pageOf s
 
   abbrev waits : Bool
-  waits = wakes (p .«need_wake»)
+  waits = wakes (needWake s)
 
-  abbrev goes : After → Emitted (Ring Event) → Type 0
+  abbrev goes : AfterEmit → Emitted (Ring Event) → Type 0
   goes a m = Stepped cpu capacity waits ring e a m
 
   -- ---- refused, and dropped
@@ -132,8 +132,8 @@ module _ (cpu capacity : ℕ) (s : List ℕ) (w : Writer) (ring : Ring Event) (e
     fits = omega (arith, h .write-is, h .sized, parts, long, latest-room (bytes size) (capacity - size e) (ring .kept))
 
     goes-stored : Holding size capacity (storing size capacity ring e)
-        → goes (accepted s p w event there (length gone)) (record { answer = Done; next = storing size capacity ring e })
-    unfolding accepted
+        → goes (acceptance s p w event there (length gone)) (record { answer = Done; next = storing size capacity ring e })
+    unfolding acceptance
     goes-stored next =
         let back : there - p .«tail_pos» ≡ total (bytes size) gone = omega (arith, h .tail-is) in
         record {
@@ -160,7 +160,7 @@ module _ (cpu capacity : ℕ) (s : List ℕ) (w : Writer) (ring : Ring Event) (e
 
   -- ---- the step
 
-  abbrev sent : After
+  abbrev sent : AfterEmit
   sent = emission s w (labelOf e) (e .payload)
 
   right : wrongWriter w ≡ false
@@ -173,21 +173,21 @@ module _ (cpu capacity : ℕ) (s : List ℕ) (w : Writer) (ring : Ring Event) (e
   half-is : p .capacity / 2 ≡ capacity / 2
   half-is = ap (λ (n : ℕ). n / 2) (h .sized)
 
-  pub step : Stepped cpu capacity (wakes (pageOf s .«need_wake»)) ring e (emission s w (labelOf e) (e .payload)) (emit size capacity ring e)
+  pub step : Stepped cpu capacity (wakes (needWake s)) ring e (emission s w (labelOf e) (e .payload)) (emit size capacity ring e)
   step =
       emit-cases size (λ (m : Emitted (Ring Event)). Holding size capacity (m .next) → goes sent m) capacity ring e
       (λ none next.
-      subst (λ (a : After). goes a (record { answer = Refused 8; next = ring }))
+      subst (λ (a : AfterEmit). goes a (record { answer = Refused 8; next = ring }))
       (sym (opens ∙ spent s w (labelOf e) (e .payload) p right (h .last-is ∙ none))) (goes-spent none))
       (λ some above next.
-      subst (λ (a : After). goes a (record { answer = Dropped; next = dropping size ring }))
+      subst (λ (a : AfterEmit). goes a (record { answer = Dropped; next = dropping size ring }))
       (sym (opens ∙ is-dropped s w (labelOf e) (e .payload) p right (unspent some) (omega (arith, half-is)))) (goes-dropped some above next))
       (λ some half far next.
-      subst (λ (a : After). goes a (record { answer = Refused 9; next = ring }))
+      subst (λ (a : AfterEmit). goes a (record { answer = Refused 9; next = ring }))
       (sym (opens ∙ too-far s w (labelOf e) (e .payload) p right (unspent some) (omega (arith, half-is)) (omega (arith, h .write-is))))
       (goes-far some half far))
       (λ some half near next.
-      subst (λ (a : After). goes a (record { answer = Done; next = storing size capacity ring e }))
+      subst (λ (a : AfterEmit). goes a (record { answer = Done; next = storing size capacity ring e }))
       (sym
       (opens ∙ is-placed s w (labelOf e) (e .payload) p right (unspent some) (omega (arith, half-is)) (omega (arith, h .write-is))
       ∙ agreed s w (labelOf e) (e .payload) p (ring .tail + total (bytes size) gone) (length gone) (walk-ends some half near)

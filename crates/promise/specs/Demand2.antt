@@ -29,10 +29,10 @@ use Rattle.emit_rules.specs.declared.Outcome.the-variants.{Done, Wake, Dropped,
 use Rattle.inspect_rules.specs.Inspect.{inspected}
 use Rattle.inspect_rules.specs.declared.Inspected.the-variants.{Whole}
 use Rattle.writer_rules.specs.declared.Writer.{Writer}
-use Rattle.history.specs.Runs.{total, LongestRun}
-use Rattle.history.specs.Ring.{Numbered, Ring, newest, fresh, write}
+use Rattle.run_rules.specs.Runs.{lastOf, firstOf, total, LongestRun}
+use Rattle.history.specs.Ring.{sequenceOf, Numbered, Ring, fresh, write}
 use Rattle.history.specs.Calls.{uses, used, droppedOf}
-use Rattle.promise.specs.Bytes.{Event, size, taken, encode, oldest, State, consumed, Turn, Emission, Made, madeBy, afterBy, operation, made, after, answerOf, callOf, acceptedOf}
+use Rattle.promise.specs.Bytes.{Event, size, taken, encode, State, consumed, Turn, Emission, Made, madeBy, afterBy, operation, made, after, answerOf, callOf, acceptedOf}
 use Rattle.promise.specs.Holds.{Holds}
 
 -- ---- each call's answer
@@ -92,7 +92,7 @@ pub record Promise (cpu capacity : ℕ) (beginning : Ring Event) (calls : List M
   -- "Only an event above half the capacity is dropped", and no call is refused but by 8 and 9
   pub exact : Exact capacity (beginning .last) (write size beginning) calls
   -- inspection never refuses: it finds the events kept
-  pub inspection : inspected (end .ring) ≡ Whole (record { count = length kept; first = oldest kept; last = newest 0 kept })
+  pub inspection : inspected (end .ring) ≡ Whole (record { count = length kept; first = firstOf sequenceOf kept; last = lastOf sequenceOf 0 kept })
   -- "The last number given out equals events kept, dropped and overwritten together": kept is inspection's count, dropped is from the calls,
   -- overwritten is the record's
   pub counts : end .writer .last ≡ length kept + (beginning .dropped + droppedOf (map callOf calls)) + end .writer .overwritten

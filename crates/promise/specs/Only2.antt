@@ -24,8 +24,8 @@ Only2 =
 -- ---- wrong emissions
 
 -- refuses everything
-abbrev pub refusing : Refusal → Emission
-refusing r s w label payload = refuse s w r
+abbrev pub refusingEmission : Refusal → Emission
+refusingEmission r s w label payload = refuse s w r
 
 -- always answers DROPPED
 abbrev pub dropping : Emission
@@ -61,7 +61,7 @@ inventing drops overwrites s w label payload = record {
 }
 
 pub record ShutOut2 : Type 0 where
-  pub refuses : (r : Refusal) → FreshBy2 (refusing r) → ⊥
+  pub refuses : (r : Refusal) → FreshBy2 (refusingEmission r) → ⊥
   pub drops : FreshBy2 dropping → ⊥
   pub writes-nothing : FreshBy2 silent → ⊥
   pub only-moves : FreshBy2 moving → ⊥

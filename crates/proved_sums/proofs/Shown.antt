@@ -11,14 +11,14 @@ use Rattle.writer_rules.specs.declared.Writer.{Writer}
 use Rattle.inspect_rules.specs.Inspect.{walked}
 use Rattle.inspect_rules.specs.declared.Inspected.the-variants as answers
 use Rattle.inspect_rules.proofs.Surveys.{walked-all}
-use Rattle.history.specs.Runs.{total}
-use Rattle.history.specs.Ring.{Numbered, Ring, Rising, newest, bytes, write}
-use Rattle.history.proofs.Rising.{rising-length}
-use Rattle.promise.specs.Bytes.{Event, size, encode, oldest, State}
+use Rattle.run_rules.specs.Runs.{Rising, lastOf, firstOf, total}
+use Rattle.history.specs.Ring.{sequenceOf, Numbered, Ring, bytes, write}
+use Rattle.run_rules.proofs.Rising.{rising-length}
+use Rattle.promise.specs.Bytes.{Event, size, encode, State}
 use Rattle.promise.specs.Holds.{Holds}
 use Rattle.promise.proofs.Encoding.{encode-sequence}
 use Rattle.promise.proofs.Holds.{holds-range, holds-whole, holds-inspected}
-use Rattle.proved_sums.specs.Lives.{lastIn, told, Shows}
+use Rattle.proved_sums.specs.Lives.{summaryOf, Shows}
 
 abbrev pub numbers : List (Numbered Event) → List ℕ
 numbers kept = map (λ (x : Numbered Event). x .sequence) kept
@@ -27,21 +27,21 @@ numbers kept = map (λ (x : Numbered Event). x .sequence) kept
 abbrev pub recordOf : Ring Event → Writer
 recordOf ring = record { last = ring .last; dropped = ring .dropped; overwritten = ring .overwritten }
 
-oldest-number : (xs : List (Numbered Event)) → oldest xs ≡ getD (numbers xs) 0 0
+oldest-number : (xs : List (Numbered Event)) → firstOf sequenceOf xs ≡ firstOf (λ (n : ℕ). n) (numbers xs)
 oldest-number [] = refl
 oldest-number (x ∷ xs) = refl
 
-newest-number : (low : ℕ) (xs : List (Numbered Event)) → newest low xs ≡ lastIn low (numbers xs)
+newest-number : (low : ℕ) (xs : List (Numbered Event)) → lastOf sequenceOf low xs ≡ lastOf (λ (n : ℕ). n) low (numbers xs)
 newest-number low [] = refl
 newest-number low (x ∷ xs) = newest-number (x .sequence) xs
 
 -- the sequences stand in the bytes
-sequences : (cpu : ℕ) → cpu < 2 ^ 16 → (low : ℕ) (xs : List (Numbered Event)) → total (bytes size) xs < 2 ^ 32 → Rising low xs → newest low xs < 2 ^ 64
+sequences : (cpu : ℕ) → cpu < 2 ^ 16 → (low : ℕ) (xs : List (Numbered Event)) → total (bytes size) xs < 2 ^ 32 → Rising sequenceOf low xs → lastOf sequenceOf low xs < 2 ^ 64
     → map sequence (map (encode cpu) xs) ≡ numbers xs
 sequences cpu narrow low [] small rise known = refl
 sequences cpu narrow low (x ∷ xs) small rise known =
     ap₂ (λ (n : ℕ) (l : List ℕ). n ∷ l)
-    (encode-sequence cpu narrow x (omega arith) (omega (arith, rising-length (x .sequence) xs (rise .1))))
+    (encode-sequence cpu narrow x (omega arith) (omega (arith, rising-length sequenceOf (x .sequence) xs (rise .1))))
     (sequences cpu narrow (x .sequence) xs (omega arith) (rise .1) known)
 
 module _ (cpu capacity : ℕ) (s : State) (ring : Ring Event) (h : Holds cpu capacity (s .ring) (s .writer) ring) where
@@ -62,7 +62,7 @@ module _ (capacity : ℕ) (s : State) (ring : Ring Event) (h : Holds 3 capacity 
     write-is = h .write-is ∙ to;
     inspection = holds-inspected 3 capacity (s .ring) (s .writer) ring h
         ∙ (λ i. answers.Whole (record { count = sym (length-map (ring .kept) (λ (x : Numbered Event). x .sequence)) i; first = oldest-number (ring .kept) i; last = newest-number 0 (ring .kept) i }))
-        ∙ ap (λ (l : List ℕ). answers.Whole (told l)) are;
+        ∙ ap (λ (l : List ℕ). answers.Whole (summaryOf l)) are;
     kept-are = ap (map sequence) (walked-kept 3 capacity s ring h)
         ∙ sequences 3 (h .narrow) 0 (ring .kept) (omega (arith, h .holding .fits, holds-range 3 capacity (s .ring) (s .writer) ring h)) (h .holding .rising)
         (omega (arith, h .holding .known, h .holding .spendable))

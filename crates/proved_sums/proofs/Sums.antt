@@ -11,13 +11,13 @@ use Rattle.page_rules.specs.Page.{pageOf}
 use Rattle.create_rules.specs.Create.{afterCreate}
 use Rattle.reader_rules.specs.Reader.{missed}
 use Rattle.reader_rules.specs.Attach.{attached}
-use Rattle.reader_rules.specs.Read.{Outcome, readOut}
+use Rattle.reader_rules.specs.Read.{AfterRead, readOut}
 use Rattle.reader_rules.specs.declared.Reader.{Reader}
 use Rattle.reader_rules.specs.declared.Attachment.the-variants.{Done}
 use Rattle.reader_rules.specs.declared.Reading.the-variants as reading
 use Rattle.reader_rules.proofs.Attaching.{attach-done}
 use Rattle.writer_rules.specs.declared.Writer.{Writer}
-use Rattle.history.specs.Runs.{latest, older}
+use Rattle.run_rules.specs.Runs.{latest, older}
 use Rattle.history.specs.Ring.{Numbered, Ring, write, emit, swap}
 use Rattle.history.specs.Calls.{calls, after}
 use Rattle.promise.specs.Bytes.{Event, size, Turn}
@@ -76,9 +76,9 @@ module _ (given : ℕ → Turn) (buffer : ℕ → List ℕ) (sized : (capacity :
       ∙ ap (λ (l : List ℕ). answering (reading.Event 128) (standing 544 7 2) (bytesOf given 7 ++ l)) (drop-at (bytesOf given 6) (drop 128 out) 128 six) in
       record {
         first = first;
-        first-missed = ap (λ (o : Outcome). missed (o .answered .reader)) first ∙ refl;
+        first-missed = ap (λ (o : AfterRead). missed (o .answered .reader)) first ∙ refl;
         second = second;
-        second-missed = ap (λ (o : Outcome). missed (o .answered .reader)) second ∙ refl;
+        second-missed = ap (λ (o : AfterRead). missed (o .answered .reader)) second ∙ refl;
         third = reads-empty 3 256 s w ring h (standing 544 7 2) (bytesOf given 7 ++ drop 128 out) (omega arith) (omega arith) (omega arith)
             (lived-generation given buffer sized 256 refl five);
       }

@@ -16,12 +16,12 @@ use Rattle.look_rules.specs.Live.{live}
 use Rattle.inspect_rules.specs.Inspect.{walked}
 use Rattle.inspect_rules.specs.declared.Survey.{Survey}
 use Rattle.inspect_rules.proofs.Surveys.{survey-all}
-use Rattle.swap_rules.specs.Swap.{After, discarded, latest, exchange, Carriable}
+use Rattle.swap_rules.specs.Swap.{AfterSwap, discarded, latest, exchange, Carriable}
 use Rattle.swap_rules.specs.Rings.{Exchanged}
 use Rattle.swap_rules.proofs.Rings.{swapped-sound}
-use Rattle.history.specs.Runs as runs
+use Rattle.run_rules.specs.Runs as runs
 use Rattle.history.specs.Ring.{Numbered, Ring, bytes, swap}
-use Rattle.history.proofs.Runs.{older-latest}
+use Rattle.run_rules.proofs.Runs.{older-latest}
 use Rattle.history.proofs.Swap.{swaps}
 use Rattle.promise.specs.Bytes.{Event, size, encode, State}
 use Rattle.promise.specs.Holds.{Holds}
@@ -47,7 +47,7 @@ module _ (cpu before capacity : ℕ) (s : State) (ring : Ring Event) (h : Holds 
   abbrev p : Page
   p = pageOf (s .ring)
 
-  abbrev done : After
+  abbrev done : AfterSwap
   done = exchange (s .ring) t (s .writer)
 
   size-is : length t - 8192 ≡ capacity

@@ -3,13 +3,14 @@ use Prim.Native.Nat.{ℕ, zero, suc}
 use mathlib.Core.Path.{_≡_}
 use mathlib.Core.List.{List, [], _∷_, map}
 use lib.ListN.{length, getD}
+use Rattle.run_rules.specs.Runs.{lastOf, firstOf}
 use Rattle.page_rules.specs.Page.{pageOf}
 use Rattle.event_rules.specs.Event.{sequence}
 use Rattle.writer_rules.specs.declared.Writer.{Writer}
 use Rattle.inspect_rules.specs.Inspect.{walked, inspected}
 use Rattle.inspect_rules.specs.declared.Summary.{Summary}
 use Rattle.inspect_rules.specs.declared.Inspected.the-variants.{Whole}
-use Rattle.swap_rules.specs.Swap.{After, exchange}
+use Rattle.swap_rules.specs.Swap.{AfterSwap, exchange}
 use Rattle.history.specs.Ring.{Answer}
 use Rattle.history.specs.Calls.{Call}
 use Rattle.promise.specs.Bytes.{Event, State, Turn, made, after, callOf}
@@ -52,7 +53,7 @@ module _ (given : ℕ → Turn) where
 
 module _ (buffer : ℕ → List ℕ) where
   -- a swap to a capacity
-  abbrev pub swap : ℕ → State → After
+  abbrev pub swap : ℕ → State → AfterSwap
   swap capacity s = exchange (s .ring) (buffer capacity) (s .writer)
 
   -- the new ring with the record, and the old ring
@@ -64,13 +65,9 @@ module _ (buffer : ℕ → List ℕ) where
 
 -- ---- what is shown
 
-abbrev pub lastIn : ℕ → List ℕ → ℕ
-lastIn last [] = last
-lastIn last (k ∷ ks) = lastIn k ks
-
 -- what inspection answers of events with these sequences
-abbrev pub told : List ℕ → Summary
-told sequences = record { count = length sequences; first = getD sequences 0 0; last = lastIn 0 sequences }
+abbrev pub summaryOf : List ℕ → Summary
+summaryOf sequences = record { count = length sequences; first = firstOf (λ (n : ℕ). n) sequences; last = lastOf (λ (n : ℕ). n) 0 sequences }
 
 -- by the ring's bytes and the writer's record; cpu 3 in all sums
 pub record Shows (s : State) (capacity tail write : ℕ) (kept : List ℕ) (writer : Writer) : Type 0 where
@@ -78,7 +75,7 @@ pub record Shows (s : State) (capacity tail write : ℕ) (kept : List ℕ) (writ
   pub capacity-is : pageOf (s .ring) .capacity ≡ capacity
   pub tail-is : pageOf (s .ring) .«tail_pos» ≡ tail
   pub write-is : pageOf (s .ring) .«write_pos» ≡ write
-  pub inspection : inspected (s .ring) ≡ Whole (told kept)
+  pub inspection : inspected (s .ring) ≡ Whole (summaryOf kept)
   -- the sequences of the events that inspection passes
   pub kept-are : map sequence (walked (s .ring) (pageOf (s .ring))) ≡ kept
   pub writer-is : s .writer ≡ writer

@@ -8,7 +8,7 @@ use Rattle.writer_rules.specs.declared.Writer.{Writer}
 use Rattle.create_rules.specs.Create.{afterCreate}
 use Rattle.reader_rules.specs.Reader.{missed}
 use Rattle.reader_rules.specs.Attach.{attached}
-use Rattle.reader_rules.specs.Read.{Outcome, readOut}
+use Rattle.reader_rules.specs.Read.{AfterRead, readOut}
 use Rattle.reader_rules.specs.declared.Reader.{Reader}
 use Rattle.reader_rules.specs.declared.Attachment.the-variants as attachment
 use Rattle.reader_rules.specs.declared.Reading.{Reading}
@@ -46,7 +46,7 @@ counted last dropped overwritten = record { last = last; dropped = dropped; over
 abbrev pub standing : ℕ → ℕ → ℕ → Reader
 standing place last handed = record { «read_pos» = place; last = last; handed = handed; generation = 1 }
 
-abbrev pub answering : Reading → Reader → List ℕ → Outcome
+abbrev pub answering : Reading → Reader → List ℕ → AfterRead
 answering answer reader out = record { answered = record { answer = answer; reader = reader }; out = out }
 
 -- three reads one after the other, each with the record and the output buffer that the one before left: the answer, the record and every byte

@@ -162,11 +162,11 @@ pub fn read(line: &[u8], state: State, ring: &[u8], out: &mut [u8]) -> State {
     with_reader(state, r, answered.reader)
 }
 
-fn exchange(answer: swap_rules::Outcome) {
+fn exchange(answer: swap_rules::SwapOutcome) {
     match answer {
-        swap_rules::Outcome::Done => say::words(b"done"),
-        swap_rules::Outcome::Wake => say::words(b"wake"),
-        swap_rules::Outcome::Refused(refused) => say::refusal(refused),
+        swap_rules::SwapOutcome::Done => say::words(b"done"),
+        swap_rules::SwapOutcome::Wake => say::words(b"wake"),
+        swap_rules::SwapOutcome::Refused(refused) => say::refusal(refused),
     }
 }
 

@@ -14,7 +14,7 @@ use Rattle.reader_rules.specs.declared.Answered.{Answered}
 use Rattle.swap_rules.specs.Swap.{exchange}
 use Rattle.swap_rules.specs.declared.Swapped.{Swapped}
 use Rattle.emit_rules.specs.declared.Emitted.{Emitted}
-use Rattle.console.specs.Console.{recordOf, recordRows, recordAfter, emittedNumber}
+use Rattle.console_rules.specs.Console.{recordOf, recordRows, recordAfter, emittedNumber}
 use Rattle.bench_calls.specs.Calls.{readerOf, readerFields, readingNumber, Read, refusedRead, answeredRead, readerRows, readCall, asEmitted, Exchanged, refusedSwap, answeredSwap, swapCall}
 
 -- an equation of all that is left, read by parts as the contracts have them

@@ -6,7 +6,7 @@ use table::paper_number;
 use table_rules::Refusal;
 ghost use mathlib.Core.Path.{_≡_};
 ghost use Rattle.table_rules.specs.Refusals.{paperNumber};
-ghost use Rattle.console.specs.Console.{createdNumber, inspectedNumber, emittedNumber};
+ghost use Rattle.console_rules.specs.Console.{createdNumber, inspectedNumber, emittedNumber};
 
 pub fn refusal_number(refusal: Refusal) -> u32
     ensures { λ r. ⌜ r ≡ paperNumber refusal ⌝ }

@@ -1,0 +1,1 @@
+// What the calls of the console firmware answer: numbers, and the writer's record as bytes.

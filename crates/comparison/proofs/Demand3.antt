@@ -17,12 +17,13 @@ use Rattle.reader_rules.specs.declared.Reader.{Reader}
 use Rattle.reader_rules.specs.declared.Attached.{Attached}
 use Rattle.reader_rules.proofs.Attaching.{attach-done}
 use Rattle.run_rules.specs.Runs.{EndPart}
-use Rattle.history.specs.Ring.{Answer, Emitted, Ring, bytes, emit}
-use Rattle.history.specs.Reading.{unread}
-use Rattle.history.specs.Reading.{Emptied as AllRead}
-use Rattle.history.specs.Served.{Watched as Ideal, start, emission as idealEmission, emptying as idealEmptying}
-use Rattle.history.specs.Promise3.{NotRefused}
-use Rattle.history.specs.Promise3.{Promise3 as Ideal3, Fair as IdealFair}
+use Rattle.history.specs.Ring.{Answer, Ring, bytes}
+use Rattle.history.proofs.Ideal.{Emitted, emit}
+use Rattle.history.proofs.IdealReading.{unread}
+use Rattle.history.proofs.IdealReading.{AllRead}
+use Rattle.history.proofs.IdealServed.{Ideal, start, idealEmission, idealEmptying}
+use Rattle.history.proofs.Ideal3.{NotRefused}
+use Rattle.history.proofs.Ideal3.{Ideal3, IdealFair}
 use Rattle.run_rules.proofs.Runs.{latest-ends}
 use Rattle.history.proofs.Served.{Attended, emit-done, done, done-is}
 use Rattle.history.proofs.Demand3.{Both, both-start, both-emission, both-emptying, promise3}

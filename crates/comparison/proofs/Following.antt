@@ -8,12 +8,14 @@ use Rattle.page_rules.specs.Page.{pageOf}
 use Rattle.reader_rules.specs.Read.{readOut}
 use Rattle.reader_rules.specs.declared.Reader.{Reader}
 use Rattle.run_rules.specs.Runs.{lastOf, LongestRun}
-use Rattle.history.specs.Ring.{sequenceOf, Numbered, Ring, given, bytes, write, emit}
-use Rattle.history.specs.Reading.{Following, unread}
-use Rattle.history.specs.Reading.{Reader as Place}
-use Rattle.history.specs.Reading.{Emptied as AllRead}
-use Rattle.history.specs.Calls.{Call, accepted, call}
-use Rattle.history.specs.Served.{Watched as Ideal, emission as idealEmission, emptying as idealEmptying}
+use Rattle.history.specs.Ring.{sequenceOf, Numbered, Ring, bytes, write}
+use Rattle.history.proofs.Ideal.{given, emit}
+use Rattle.history.proofs.IdealReading.{Following, unread}
+use Rattle.history.proofs.IdealReading.{Place}
+use Rattle.history.proofs.IdealReading.{AllRead}
+use Rattle.history.specs.Calls.{Call, accepted}
+use Rattle.history.proofs.Ideal.{call}
+use Rattle.history.proofs.IdealServed.{Ideal, idealEmission, idealEmptying}
 use Rattle.run_rules.proofs.Runs.{longest-iff}
 use Rattle.history.proofs.Emptying.{past, finished, unread-past, following-past, following-finished}
 use Rattle.history.proofs.Served.{Attended, done-is}

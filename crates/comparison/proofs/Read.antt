@@ -13,8 +13,8 @@ use Rattle.reader_rules.specs.declared.Reader.{Reader}
 use Rattle.reader_rules.specs.declared.Reading.the-variants as reading
 use Rattle.run_rules.specs.Runs.{Rising, lastOf, total}
 use Rattle.history.specs.Ring.{sequenceOf, Numbered, Ring, bytes, write}
-use Rattle.history.specs.Reading.{Following, unread, place}
-use Rattle.history.specs.Reading.{Reader as Place}
+use Rattle.history.proofs.IdealReading.{Following, unread, placeIn}
+use Rattle.history.proofs.IdealReading.{Place}
 use Rattle.run_rules.proofs.Rising.{rising-length}
 use Rattle.history.proofs.Reading.{following-splits}
 use Rattle.history.proofs.Emptying.{past, finished}
@@ -35,7 +35,7 @@ module _ (cpu capacity : ℕ) (s : List ℕ) (w : Writer) (ring : Ring Event) (h
   abbrev reader : Reader
   reader = recordOf generation r
 
-  there : readingPlace p reader ≡ place size ring r
+  there : readingPlace p reader ≡ placeIn size ring r
   there = omega (arith, h .tail-is)
 
   behind : reader .«read_pos» ≤ write size ring
@@ -72,7 +72,7 @@ module _ (cpu capacity : ℕ) (s : List ℕ) (w : Writer) (ring : Ring Event) (h
         let here = following-splits size ring r f in
         let cut : ring .kept ≡ here .0 ++ (x ∷ others) = here .1 ∙ ap (λ (l : List (Numbered Event)). here .0 ++ l) e in
         let long : size (x .event) ≡ length (encode cpu x) = sym (encode-length cpu x) in
-        let next : ring .tail + total (bytes size) (here .0) + size (x .event) ≡ place size ring r + size (x .event) = omega (arith, here .2) in
+        let next : ring .tail + total (bytes size) (here .0) + size (x .event) ≡ placeIn size ring r + size (x .event) = omega (arith, here .2) in
         reads-event cpu capacity s w ring h (here .0) x others cut known reader out (there ∙ here .2) behind (f .handed) (rising .0) room
         ∙ (λ i. record {
           answered = record {

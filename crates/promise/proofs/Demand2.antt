@@ -9,9 +9,11 @@ use Rattle.page_rules.specs.Page.{pageOf}
 use Rattle.page_rules.specs.Wake.{wakes}
 use Rattle.page_rules.proofs.Sound.{sound-length}
 use Rattle.run_rules.specs.Runs.{LongestRun}
-use Rattle.history.specs.Ring.{Numbered, Ring, given, bytes, write, emit}
-use Rattle.history.specs.Calls.{Call, uses, used, droppedOf, accepted, call, calls}
-use Rattle.history.specs.Calls.{after as afterCalls}
+use Rattle.history.specs.Ring.{Numbered, Ring, bytes, write}
+use Rattle.history.proofs.Ideal.{given, emit}
+use Rattle.history.specs.Calls.{Call, uses, used, droppedOf, accepted}
+use Rattle.history.proofs.Ideal.{call, calls}
+use Rattle.history.proofs.Ideal.{after as afterCalls}
 use Rattle.history.proofs.Demand2.{one2, demand2 as abstract2}
 use Rattle.promise.specs.Bytes.{Event, size, taken, encode, State, Turn, consumed, emitted, left, Made, madeBy, made, afterBy, after, answerOf, callOf, acceptedOf}
 use Rattle.promise.specs.Holds.{Holds}

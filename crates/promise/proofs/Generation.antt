@@ -26,7 +26,8 @@ use Rattle.writer_rules.specs.declared.Writer.{Writer}
 use Rattle.emit_rules.specs.Emit.{AfterEmit, refuse, writerRows, tooLarge, dropped, tooFar, disagrees, eventOf, stored, acceptance, ended, placed, emittedOn, emission}
 use Rattle.emit_rules.specs.declared.Label.{Label}
 use Rattle.table_rules.proofs.Laws.{answers}
-use Rattle.history.specs.Ring.{Ring, emit}
+use Rattle.history.specs.Ring.{Ring}
+use Rattle.history.proofs.Ideal.{emit}
 use Rattle.promise.specs.Bytes.{Event, size, labelOf, State, Turn, consumed, emitted, left, afterBy, after}
 use Rattle.promise.specs.Holds.{Holds}
 use Rattle.promise.proofs.Consumer.{consumed-elsewhere}

@@ -20,8 +20,9 @@ use Rattle.writer_rules.specs.declared.Writer.{Writer}
 use Rattle.emit_rules.specs.Emit.{dropped}
 use Rattle.emit_rules.specs.declared.Outcome.the-variants.{Dropped, Refused}
 use Rattle.run_rules.specs.Runs.{latest, older}
-use Rattle.history.specs.Ring.{fresh, emit}
-use Rattle.history.specs.Calls.{after as afterCalls}
+use Rattle.history.specs.Ring.{fresh}
+use Rattle.history.proofs.Ideal.{emit}
+use Rattle.history.proofs.Ideal.{after as afterCalls}
 use Rattle.promise.specs.Bytes.{Event, size, encode, State, Turn, Emission, madeBy, afterBy, after, emitted, called}
 use Rattle.promise.specs.Holds.{Holds}
 use Rattle.promise.specs.Demand2.{Given, waiting, createdState, Promise, FreshBy2}

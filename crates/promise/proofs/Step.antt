@@ -20,7 +20,8 @@ use Rattle.emit_rules.specs.Emit.{AfterEmit, refuse, dropped, eventOf, acceptin
 use Rattle.emit_rules.proofs.Laws.{event-length}
 use Rattle.emit_rules.proofs.Cases.{on-sound, spent, is-dropped, too-far, is-placed, agreed}
 use Rattle.run_rules.specs.Runs.{total, latest, older}
-use Rattle.history.specs.Ring.{Numbered, Ring, Done, Dropped, Refused, Emitted, bytes, write, dropping, new, storing, emit}
+use Rattle.history.specs.Ring.{Numbered, Ring, Done, Dropped, Refused, bytes, write}
+use Rattle.history.proofs.Ideal.{Emitted, dropping, new, storing, emit}
 use Rattle.history.specs.Holding.{Holding}
 use Rattle.run_rules.proofs.Runs.{total-append, latest-room, older-latest}
 use Rattle.history.proofs.Emission.{emit-cases, passed-counted, storing-write}

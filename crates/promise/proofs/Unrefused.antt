@@ -6,7 +6,8 @@ use mathlib.Core.Logic.{inl, inr}
 use mathlib.Core.List.{List, [], _∷_, _++_, append-nil}
 use Rattle.table_rules.specs.declared.Refusal.{Refusal}
 use Rattle.emit_rules.specs.declared.Outcome.the-variants.{Refused}
-use Rattle.history.specs.Ring.{Numbered, Answer, write, emit}
+use Rattle.history.specs.Ring.{Numbered, Answer, write}
+use Rattle.history.proofs.Ideal.{emit}
 use Rattle.history.specs.Ring as answers
 use Rattle.history.specs.Calls.{uses, accepts}
 use Rattle.history.proofs.Demand2.{one2}

@@ -13,9 +13,11 @@ use Rattle.page_rules.proofs.Fresh.{blank-generation}
 use Rattle.create_rules.specs.Create.{wrongSize, afterCreate}
 use Rattle.create_rules.proofs.Laws.{size-passed}
 use Rattle.writer_rules.specs.declared.Writer.{Writer}
-use Rattle.history.specs.Ring.{Ring, given, fresh, write, emit}
-use Rattle.history.specs.Calls.{Call, calls}
-use Rattle.history.specs.Calls.{after as afterCalls}
+use Rattle.history.specs.Ring.{Ring, fresh, write}
+use Rattle.history.proofs.Ideal.{given, emit}
+use Rattle.history.specs.Calls.{Call}
+use Rattle.history.proofs.Ideal.{calls}
+use Rattle.history.proofs.Ideal.{after as afterCalls}
 use Rattle.promise.specs.Bytes.{Event, size, Turn}
 use Rattle.promise.specs.Holds.{Holds}
 use Rattle.promise.specs.Demand2.{zeros, createdState}

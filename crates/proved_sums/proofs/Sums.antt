@@ -18,8 +18,9 @@ use Rattle.reader_rules.specs.declared.Reading.the-variants as reading
 use Rattle.reader_rules.proofs.Attaching.{attach-done}
 use Rattle.writer_rules.specs.declared.Writer.{Writer}
 use Rattle.run_rules.specs.Runs.{latest, older}
-use Rattle.history.specs.Ring.{Numbered, Ring, write, emit, swap}
-use Rattle.history.specs.Calls.{calls, after}
+use Rattle.history.specs.Ring.{Numbered, Ring, write}
+use Rattle.history.proofs.Ideal.{emit, swap}
+use Rattle.history.proofs.Ideal.{calls, after}
 use Rattle.promise.specs.Bytes.{Event, size, Turn}
 use Rattle.promise.specs.Holds.{Holds}
 use Rattle.promise.proofs.Reading.{event-at, reads-event, reads-empty}

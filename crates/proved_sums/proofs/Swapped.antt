@@ -20,7 +20,8 @@ use Rattle.swap_rules.specs.Swap.{AfterSwap, discarded, latest, exchange, Carri
 use Rattle.swap_rules.specs.Rings.{Exchanged}
 use Rattle.swap_rules.proofs.Rings.{swapped-sound}
 use Rattle.run_rules.specs.Runs as runs
-use Rattle.history.specs.Ring.{Numbered, Ring, bytes, swap}
+use Rattle.history.specs.Ring.{Numbered, Ring, bytes}
+use Rattle.history.proofs.Ideal.{swap}
 use Rattle.run_rules.proofs.Runs.{older-latest}
 use Rattle.history.proofs.Swap.{swaps}
 use Rattle.promise.specs.Bytes.{Event, size, encode, State}

@@ -5,13 +5,14 @@ use mathlib.Core.Path.{_≡_, refl, sym, ap, ap₂, _∙_, subst}
 use mathlib.Core.List.{List, [], _∷_, _++_, map}
 use lib.ListN.{length, take, drop, length-map}
 use lib.Seq.{take-append-seam, drop-at}
-use Rattle.event_rules.specs.Event.{Fit, sequence}
+use Rattle.event_rules.specs.Event.{sequence}
 use Rattle.event_rules.specs.Run.{joined, Each, Whole}
 use Rattle.event_rules.specs.Walk.{walkFrom, overflow}
 use Rattle.event_rules.specs.declared.Walk.the-variants.{Room}
 use Rattle.event_rules.proofs.Made.{made-length, made-says}
 use Rattle.event_rules.proofs.Front.{made-one, length-joined, joined-append, joined-more}
 use Rattle.event_rules.proofs.Overflow.{overflow-none, overflow-more, walk-whole}
+use Rattle.event_rules.proofs.Facts.{Fit, aimed, heading}
 use Rattle.run_rules.specs.Runs.{Rising, lastOf, firstOf, total, latest, older}
 use Rattle.history.specs.Ring.{sequenceOf, Numbered, bytes}
 use Rattle.run_rules.proofs.Runs.{by-le, older-fits, older-over, older-latest}
@@ -43,7 +44,7 @@ module _ (cpu : ℕ) where
   -- ---- whole events
 
   fit : cpu < 2 ^ 16 → (x : Numbered Event) → size (x .event) < 2 ^ 32 → x .sequence < 2 ^ 64
-      → Fit (32 + length (x .event .payload)) cpu (x .sequence) (x .event .timestamp) (x .event .type) (x .event .class)
+      → Fit (32 + length (x .event .payload)) (heading cpu (x .sequence) (x .event .timestamp) (x .event .type) (x .event .class))
   fit narrow x small given = record {
     size-fits = small;
     cpu-fits = narrow;
@@ -123,7 +124,7 @@ module _ (cpu : ℕ) where
         ∙ drop-at (joined (map (encode cpu) gone)) (joined (map (encode cpu) rest)) (total (bytes size) gone) (joined-length gone)
 
     pub walk-older : Each cpu (map (encode cpu) xs) → (tail : ℕ)
-        → walkFrom cpu capacity room (joined (map (encode cpu) xs)) tail 0 ≡ Room (tail + total (bytes size) gone) (length gone)
+        → walkFrom (aimed cpu capacity room) (joined (map (encode cpu) xs)) tail 0 ≡ Room (tail + total (bytes size) gone) (length gone)
     walk-older each tail =
         let there : tail + length (joined (take (overflow capacity room (map (encode cpu) xs)) (map (encode cpu) xs))) ≡ tail + total (bytes size) gone =
         ap (λ (l : List (List ℕ)). tail + length (joined l)) take-older ∙ ap (λ (n : ℕ). tail + n) (joined-length gone) in

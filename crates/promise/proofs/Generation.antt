@@ -21,6 +21,7 @@ use Rattle.region_rules.proofs.Storing.{store-number}
 use Rattle.event_rules.specs.Walk.{walkFrom}
 use Rattle.event_rules.specs.declared.Walk.{Walk}
 use Rattle.event_rules.specs.declared.Walk.the-variants as walks
+use Rattle.event_rules.proofs.Facts.{aimed}
 use Rattle.look_rules.specs.Live.{live}
 use Rattle.writer_rules.specs.declared.Writer.{Writer}
 use Rattle.emit_rules.specs.Emit.{AfterEmit, refuse, writerRows, tooLarge, dropped, tooFar, disagrees, eventOf, stored, acceptance, ended, placed, emittedOn, emission}
@@ -58,7 +59,7 @@ module _ (s : List ℕ) (w : Writer) where
     placed-same : (p : Page) → Same (placed s p w label payload)
     unfolding placed
     placed-same p =
-        ended-same p (eventOf p w label payload) (walkFrom (p .«cpu_id») (p .capacity) (32 + length payload) (live s p) (p .«tail_pos») 0)
+        ended-same p (eventOf p w label payload) (walkFrom (aimed (p .«cpu_id») (p .capacity) (32 + length payload)) (live s p) (p .«tail_pos») 0)
 
     on-page-same : (p : Page) → Same (emittedOn s p w label payload)
     unfolding emittedOn dropped

@@ -12,9 +12,10 @@ use lib.Dec.{eqb}
 use Rattle.table_rules.specs.declared.Refusal.{Refusal}
 use Rattle.capacity_rules.specs.Capacity.{powerAmong, allowed}
 use Rattle.page_rules.specs.Page.{pageOf}
-use Rattle.event_rules.specs.Event.{timestamp, Fit}
+use Rattle.event_rules.specs.Event.{timestamp}
 use Rattle.event_rules.specs.Run.{joined}
 use Rattle.event_rules.proofs.Made.{made-before}
+use Rattle.event_rules.proofs.Facts.{Fit, heading}
 use Rattle.look_rules.specs.Live.{live}
 use Rattle.writer_rules.specs.declared.Writer.{Writer}
 use Rattle.emit_rules.specs.Emit.{dropped}
@@ -116,7 +117,7 @@ module _ (buffer : List ℕ) (long : length buffer ≡ 8192 + 256) (page : List 
         (encode 0 (record { sequence = 2; event = event time fits }) ++ []) 32 (encode-length 0 (record { sequence = 1; event = event 0 early })))
         ∙ made-before 0 2 time 0 0 [] says [] .timestamp-is
       where
-        says : Fit 32 0 2 time 0 0
+        says : Fit 32 (heading 0 2 time 0 0)
         says = record {
           size-fits = omega arith;
           cpu-fits = omega arith;

@@ -13,6 +13,7 @@ use Rattle.page_rules.specs.declared.Page.{Page}
 use Rattle.event_rules.specs.Event.{eventBytes}
 use Rattle.event_rules.specs.Walk.{walkFrom}
 use Rattle.event_rules.specs.declared.Walk.the-variants.{Room}
+use Rattle.event_rules.proofs.Facts.{aimed, heading}
 use Rattle.look_rules.specs.Live.{live}
 use Rattle.writer_rules.specs.Writer.{wrongWriter}
 use Rattle.writer_rules.specs.declared.Writer.{Writer}
@@ -96,7 +97,7 @@ module _ (cpu capacity : ℕ) (s : List ℕ) (w : Writer) (ring : Ring Event) (e
   event-is : event ≡ encode cpu (new ring e)
   unfolding eventOf encode
   event-is =
-      ap₂ (λ (n m : ℕ). eventBytes n (m + 1) (e .timestamp) (e .type) (e .class) (e .payload)) (h .named) (h .last-is)
+      ap₂ (λ (n m : ℕ). eventBytes (heading n (m + 1) (e .timestamp) (e .type) (e .class)) (e .payload)) (h .named) (h .last-is)
 
   abbrev gone : List (Numbered Event)
   gone = older (bytes size) (capacity - size e) (ring .kept)
@@ -108,9 +109,9 @@ module _ (cpu capacity : ℕ) (s : List ℕ) (w : Writer) (ring : Ring Event) (e
     abbrev there : ℕ
     there = ring .tail + total (bytes size) gone
 
-    walk-ends : walkFrom (p .«cpu_id») (p .capacity) (32 + length (e .payload)) (live s p) (p .«tail_pos») 0 ≡ Room there (length gone)
+    walk-ends : walkFrom (aimed (p .«cpu_id») (p .capacity) (32 + length (e .payload))) (live s p) (p .«tail_pos») 0 ≡ Room there (length gone)
     walk-ends =
-        (λ i. walkFrom (h .named i) (h .sized i) (size e) (h .bytes-are i) (h .tail-is i) 0)
+        (λ i. walkFrom (aimed (h .named i) (h .sized i) (size e)) (h .bytes-are i) (h .tail-is i) 0)
         ∙ walk-older cpu capacity (size e) (omega arith) (ring .kept) (holds-whole cpu capacity s w ring h .0 .0) (ring .tail)
 
     -- what the walk leaves fits with the event

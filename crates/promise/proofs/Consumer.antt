@@ -6,13 +6,11 @@ use mathlib.Core.List.{List, _++_}
 use lib.ListN.{length, take, drop, getD, length-append, length-drop, List·getD-append}
 use lib.Seq.{length-take-le, getD-take, getD-drop, getD-append-add}
 use Rattle.word_rules.specs.Number.{number}
-use Rattle.word_rules.proofs.Reading.{number-same, number-one}
+use Rattle.word_rules.proofs.Reading.{number-one}
 use Rattle.page_rules.specs.Page.{pageOf}
-use Rattle.page_rules.specs.Sound.{Sound}
 use Rattle.page_rules.proofs.Sound.{sound-length}
-use Rattle.page_rules.proofs.Alike.{alike-below, resound}
-use Rattle.region_rules.proofs.Bytes.{bytes-same}
-use Rattle.look_rules.specs.Live.{rest, live}
+use Rattle.page_rules.proofs.Same.{page-same, sound-same}
+use Rattle.look_rules.proofs.Laws.{live-same}
 use Rattle.writer_rules.specs.declared.Writer.{Writer}
 use Rattle.history.specs.Ring.{Ring}
 use Rattle.promise.specs.Bytes.{Event, consumed}
@@ -25,35 +23,19 @@ pub record Elsewhere (s t : List ℕ) : Type 0 where
   pub beyond : (i : ℕ) → 8192 ≤ i → getD t i 0 ≡ getD s i 0
 
 module _ (s t : List ℕ) (same : Elsewhere s t) where
-  part : (at n : ℕ) → at + n ≤ 4096 → number t at n ≡ number s at n
-  part at n low = number-same t s at at n (λ i l. same .below (at + i) (omega arith))
-
-  pub elsewhere-sound : Sound s (pageOf s) → Sound t (pageOf t)
-  unfolding pageOf
-  elsewhere-sound h =
-      resound s t (pageOf s) h (alike-below s t (same .long) (λ i l. same .below i (omega arith)))
-      (omega (arith, part 32 8 (omega arith), h .begun))
-      (omega (arith, part 64 8 (omega arith), part 72 8 (omega arith), h .order))
-      (omega (arith, part 64 8 (omega arith), part 72 8 (omega arith), h .held))
-      (omega (arith, part 64 8 (omega arith), h .near))
-
-  pub elsewhere-live : live t (pageOf t) ≡ live s (pageOf s)
-  unfolding live rest pageOf
-  elsewhere-live =
-      rw (part 16 8 (omega arith), part 64 8 (omega arith), part 72 8 (omega arith))
-      (bytes-same t s (number s 16 8) (number s 72 8) (number s 64 8 - number s 72 8) (same .beyond))
+  pub elsewhere-page : pageOf t ≡ pageOf s
+  elsewhere-page = page-same s t (same .long) (λ i l. same .below i (omega arith))
 
   -- whatever the ring holds, it holds still
-  pub elsewhere-holds : (cpu capacity : ℕ) (w : Writer) (ring : Ring Event) → Holds cpu capacity s w ring → Holds cpu capacity t w ring
-  unfolding pageOf
+  elsewhere-holds : (cpu capacity : ℕ) (w : Writer) (ring : Ring Event) → Holds cpu capacity s w ring → Holds cpu capacity t w ring
   elsewhere-holds cpu capacity w ring h = record {
     narrow = h .narrow;
-    sound = elsewhere-sound (h .sound);
-    named = part 12 2 (omega arith) ∙ h .named;
-    sized = part 16 8 (omega arith) ∙ h .sized;
-    tail-is = part 72 8 (omega arith) ∙ h .tail-is;
-    write-is = part 64 8 (omega arith) ∙ h .write-is;
-    bytes-are = elsewhere-live ∙ h .bytes-are;
+    sound = rw elsewhere-page (sound-same s t (same .long) (λ i l. same .below i (omega arith)) (pageOf s) (h .sound));
+    named = rw elsewhere-page (h .named);
+    sized = rw elsewhere-page (h .sized);
+    tail-is = rw elsewhere-page (h .tail-is);
+    write-is = rw elsewhere-page (h .write-is);
+    bytes-are = rw elsewhere-page (live-same s t (same .beyond) (pageOf s) ∙ h .bytes-are);
     last-is = h .last-is;
     dropped-is = h .dropped-is;
     overwritten-is = h .overwritten-is;

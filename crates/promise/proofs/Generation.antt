@@ -1,7 +1,7 @@
 -- No emission changes the page's generation, whatever its answer, nor does the consumer.
 use Prim.Native.Nat.{ℕ, _+_}
 use native.Mathlib.Omega.{arith}
-use mathlib.Core.Path.{_≡_, refl, _∙_}
+use mathlib.Core.Path.{_≡_, refl, ap, _∙_}
 use mathlib.Core.Logic.{inl}
 use mathlib.Core.Bool.{Bool, true, false, cond}
 use mathlib.Core.List.{List, [], _∷_}
@@ -9,7 +9,6 @@ use lib.ListN.{length}
 use Rattle.table_rules.specs.Table.{first}
 use Rattle.table_rules.specs.declared.Refusal.the-variants as refusal
 use Rattle.word_rules.specs.Number.{number}
-use Rattle.word_rules.proofs.Reading.{number-same}
 use Rattle.word_rules.proofs.Fields.{beside}
 use Rattle.page_rules.specs.Page.{pageOf, pageRows, positions}
 use Rattle.page_rules.specs.Sound.{Sound}
@@ -31,7 +30,7 @@ use Rattle.history.specs.Ring.{Ring}
 use Rattle.history.proofs.Ideal.{emit}
 use Rattle.promise.specs.Bytes.{Event, size, labelOf, State, Turn, consumed, emitted, left, afterBy, after}
 use Rattle.promise.specs.Holds.{Holds}
-use Rattle.promise.proofs.Consumer.{consumed-elsewhere}
+use Rattle.promise.proofs.Consumer.{elsewhere-page, consumed-elsewhere}
 use Rattle.promise.proofs.Demand2.{turn-step}
 
 cond-either : {A : Type 0} (P : A → Type 0) (b : Bool) (x y : A) → P x → P y → P (cond b x y)
@@ -76,10 +75,9 @@ module _ (s : List ℕ) (w : Writer) where
         answers Same (refuse s w) (emittedOn s (pageOf s) w label payload) (λ r. refl) (on-page-same (pageOf s)) (pageRows s)
 
 pub consumed-generation : (s page : List ℕ) → length page ≡ 4096 → Sound s (pageOf s) → pageOf (consumed s page) .generation ≡ pageOf s .generation
-unfolding pageOf
 consumed-generation s page whole h =
-    let same = consumed-elsewhere s page whole (omega (arith, sound-length s (pageOf s) h)) in
-    number-same (consumed s page) s 32 32 8 (λ i l. same .below (32 + i) (omega arith))
+    ap (λ (p : Page). p .generation)
+    (elsewhere-page s (consumed s page) (consumed-elsewhere s page whole (omega (arith, sound-length s (pageOf s) h))))
 
 -- so it stands through a history, whatever the consumer writes
 pub generation-stays : (cpu capacity : ℕ) (turns : List Turn) (s : State) (ring : Ring Event) → Holds cpu capacity (s .ring) (s .writer) ring

@@ -1,0 +1,5 @@
+pub mod Writes
+pub mod Looks
+pub mod Emission
+pub mod Swap
+pub mod LookedAt

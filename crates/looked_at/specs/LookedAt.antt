@@ -1,0 +1,60 @@
+-- "All else below 8192 is made zero and never looked at. A consumer may write anything in bytes 4096 to 8191; no answer depends on them but through
+-- byte 4096" (document 01). Of any bytes s and t, a ring or not.
+use Prim.Native.Nat.{ℕ, _≤_, _<_}
+use mathlib.Core.Path.{_≡_}
+use mathlib.Core.Logic.{_⊎_}
+use mathlib.Core.List.{List}
+use lib.ListN.{length, getD}
+use Rattle.table_rules.specs.declared.Refusal.{Refusal}
+use Rattle.writer_rules.specs.declared.Writer.{Writer}
+use Rattle.create_rules.specs.Create.{created, afterCreate}
+use Rattle.create_rules.specs.declared.Created.the-variants.{Refused}
+use Rattle.emit_rules.specs.Emit.{emission}
+use Rattle.emit_rules.specs.declared.Label.{Label}
+use Rattle.inspect_rules.specs.Inspect.{inspected}
+use Rattle.reader_rules.specs.Attach.{attached}
+use Rattle.reader_rules.specs.Read.{readOut}
+use Rattle.reader_rules.specs.declared.Reader.{Reader}
+use Rattle.follow_rules.specs.Follow.{followed}
+use Rattle.swap_rules.specs.Swap.{refusedSwap, exchange}
+use Rattle.console_rules.specs.Console.{emitCall}
+
+-- the bytes that count: those that the paper's table lists, with need_wake, and the data
+abbrev pub Counts : ℕ → Type 0
+Counts i = (i < 192) ⊎ ((i ≡ 4096) ⊎ (8192 ≤ i))
+
+pub record Agree (s t : List ℕ) : Type 0 where
+  pub long : length t ≡ length s
+  pub bytes : (i : ℕ) → Counts i → getD t i 0 ≡ getD s i 0
+
+-- what is left of them, s′ and t′, differs at most where they did, so that two that agreed agree still
+pub record AgreeStill (s t s′ t′ : List ℕ) : Type 0 where
+  pub long : length s′ ≡ length s
+  pub long′ : length t′ ≡ length t
+  pub bytes : (i : ℕ) → getD t i 0 ≡ getD s i 0 → getD t′ i 0 ≡ getD s′ i 0
+
+-- both are made the same ring, or a refusal leaves both as they came
+abbrev pub MadeAlike : (Refusal → Type 0) → List ℕ → List ℕ → List ℕ → List ℕ → Type 0
+MadeAlike refused s t s′ t′ = (t′ ≡ s′) ⊎ ((r : Refusal) × refused r × (s′ ≡ s) × (t′ ≡ t))
+
+pub record LookedAt (s t : List ℕ) : Type 0 where
+  -- of a buffer to be made a ring the length alone
+  pub create : length t ≡ length s → (cpu : ℕ)
+      → (created t ≡ created s) × MadeAlike (λ r. created s ≡ Refused r) s t (afterCreate cpu s) (afterCreate cpu t)
+  pub emit : Agree s t → (w : Writer) (label : Label) (payload : List ℕ)
+      → (emission t w label payload .answer ≡ emission s w label payload .answer)
+      × AgreeStill s t (emission s w label payload .ring) (emission t w label payload .ring)
+  pub inspect : Agree s t → inspected t ≡ inspected s
+  pub attach : Agree s t → (reader : Reader) → attached t reader ≡ attached s reader
+  -- the output buffer too
+  pub read : Agree s t → (reader : Reader) (out : List ℕ) → readOut t reader out ≡ readOut s reader out
+  pub follow : Agree s t → (reader : Reader) → followed t reader ≡ followed s reader
+  pub swap : Agree s t → (new new′ : List ℕ) → length new′ ≡ length new → (w : Writer)
+      → (exchange t new′ w .answer ≡ exchange s new w .answer)
+      × AgreeStill s t (exchange s new w .old) (exchange t new′ w .old)
+      × MadeAlike (λ r. exchange s new w .answer ≡ refusedSwap r w) new new′ (exchange s new w .new) (exchange t new′ w .new)
+  -- of C calls; those for create and inspect give the numbers of the answers above
+  pub emitC : Agree s t → (bytes : List ℕ) (timestamp type class : ℕ) (payload : List ℕ)
+      → (emitCall t bytes timestamp type class payload .answer ≡ emitCall s bytes timestamp type class payload .answer)
+      × (emitCall t bytes timestamp type class payload .kept ≡ emitCall s bytes timestamp type class payload .kept)
+      × AgreeStill s t (emitCall s bytes timestamp type class payload .ring) (emitCall t bytes timestamp type class payload .ring)

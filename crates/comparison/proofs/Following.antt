@@ -1,37 +1,35 @@
 -- One ring's bytes with its reader follow the ring without bytes: through an emission, and through an emptying.
-use Prim.Native.Nat.{ℕ, suc, _+_, _≤_, _<_}
+use Prim.Native.Nat.{ℕ, _+_, _^_, _<_}
 use native.Mathlib.Omega.{arith}
 use mathlib.Core.Path.{_≡_, refl, sym, ap, ap₂, _∙_, subst, subst₂}
+use mathlib.Core.Bool.{true}
 use mathlib.Core.List.{List, [], _∷_, _++_, map}
 use lib.ListN.{length}
+use Rattle.capacity_rules.specs.Capacity.{allowed}
 use Rattle.page_rules.specs.Page.{pageOf}
+use Rattle.create_rules.specs.Create.{afterCreate}
 use Rattle.reader_rules.specs.Read.{readOut}
 use Rattle.reader_rules.specs.declared.Reader.{Reader}
-use Rattle.run_rules.specs.Runs.{lastOf, LongestRun}
-use Rattle.history.specs.Ring.{sequenceOf, Numbered, Ring, bytes, write}
-use Rattle.history.proofs.Ideal.{given, emit}
-use Rattle.history.proofs.IdealReading.{Following, unread}
-use Rattle.history.proofs.IdealReading.{Place}
-use Rattle.history.proofs.IdealReading.{AllRead}
+use Rattle.reader_rules.specs.declared.Attached.{Attached}
+use Rattle.run_rules.specs.Runs.{lastOf, LongestRun, latest}
+use Rattle.run_rules.proofs.Runs.{longest-iff, longest-latest}
+use Rattle.history.specs.Ring.{sequenceOf, Numbered, bytes, fresh}
 use Rattle.history.specs.Calls.{Call, accepted}
-use Rattle.history.proofs.Ideal.{call}
-use Rattle.history.proofs.IdealServed.{Ideal, idealEmission, idealEmptying}
-use Rattle.run_rules.proofs.Runs.{longest-iff}
-use Rattle.history.proofs.Emptying.{past, finished, unread-past, following-past, following-finished}
+use Rattle.history.proofs.Ideal.{calls, after as afterCalls}
+use Rattle.history.proofs.IdealReading.{AllRead, unread}
+use Rattle.history.proofs.IdealServed.{Ideal, start, idealEmission, idealEmptying}
+use Rattle.history.proofs.Emptying.{finished, following-finished}
 use Rattle.history.proofs.Served.{Attended, done-is}
-use Rattle.promise.specs.Bytes.{Event, size, encode, State, consumed, Turn, emitted, labelOf, Made, callOf}
+use Rattle.promise.specs.Bytes.{Event, size, encode, Turn}
 use Rattle.promise.specs.Holds.{Holds}
+use Rattle.promise.specs.Demand2.{zeros}
 use Rattle.promise.proofs.Encoding.{encode-lengths}
-use Rattle.promise.proofs.Consumer.{consumed-holds}
-use Rattle.promise.proofs.Demand2.{turn-step}
-use Rattle.comparison.specs.Emptying.{Watched, emission, Empties, Emptied, emptying}
-use Rattle.promise.proofs.Generation.{emission-generation, consumed-generation}
-use Rattle.comparison.proofs.Sizes.{Within}
-use Rattle.comparison.proofs.Read.{recordOf, read-none, read-one}
-
--- an event has a header
-pub positive : (e : Event) → 0 < size e
-positive e = omega arith
+use Rattle.promise.proofs.Created.{created-holds}
+use Rattle.promise.proofs.Demand2.{same-calls}
+use Rattle.promise.proofs.Generation.{generation-stays}
+use Rattle.promise.proofs.OneRead.{recordOf, attaches}
+use Rattle.comparison.specs.Emptying.{Watched, started, emission, Read, Empties, Emptied, emptying}
+use Rattle.comparison.proofs.NewlyAttached.{positive, empties}
 
 module _ (cpu capacity : ℕ) where
   pub record Follows (b : Watched) (w : Ideal Event) : Type 0 where
@@ -39,90 +37,63 @@ module _ (cpu capacity : ℕ) where
     pub reader-is : b .reader ≡ recordOf (pageOf (b .state .ring) .generation) (w .reader)
     pub since-is : b .since ≡ w .since
 
-  -- ---- an emission
+  pub follows-start : cpu < 2 ^ 16 → allowed capacity ≡ true → (buffer : List ℕ) → length buffer ≡ 8192 + capacity → (any : Reader)
+      → Follows (started cpu buffer any) start
+  follows-start narrow fit buffer long any =
+      let h : Holds cpu capacity (afterCreate cpu buffer) zeros fresh = created-holds cpu capacity narrow fit buffer long in
+      record {
+        holds = h;
+        reader-is = ap (λ (a : Attached). a .reader) (attaches cpu capacity (afterCreate cpu buffer) zeros fresh h any);
+        since-is = refl;
+      }
 
-  module _ (b : Watched) (w : Ideal Event) (t : Turn) (i : Follows b w) where
-    abbrev made : Made
-    made = record { turn = t; answer = emitted (b .state) t .answer }
-
-    same-call : callOf made ≡ call given (emit size capacity) (w .ring) (t .event)
-    same-call =
-        let a = turn-step cpu capacity (b .state) (w .ring) t (i .holds) in
-        λ j. record { event = t .event; answer = a .answer j; sequence = a .holds .last-is j }
-
-    same-generation : pageOf (emitted (b .state) t .ring) .generation ≡ pageOf (b .state .ring) .generation
-    same-generation =
-        emission-generation (consumed (b .state .ring) (t .page)) (b .state .writer) (labelOf (t .event)) (t .event .payload)
-        ∙ consumed-generation (b .state .ring) (t .page) (t .whole) (i .holds .sound)
-
-    pub follows-emission : Follows (emission b t) (idealEmission size capacity w (t .event))
-    follows-emission = record {
-      holds = turn-step cpu capacity (b .state) (w .ring) t (i .holds) .holds;
-      reader-is = i .reader-is ∙ ap (λ (n : ℕ). recordOf n (w .reader)) (sym same-generation);
-      since-is = ap₂ (λ (l : List (Numbered Event)) (k : Call Event). l ++ accepted (k ∷ [])) (i .since-is) same-call;
-    }
+  pub follows-emission : (b : Watched) (w : Ideal Event) (t : Turn) → Follows b w → Follows (emission b t) (idealEmission size capacity w (t .event))
+  unfolding calls afterCalls
+  follows-emission b w t i =
+      let same = same-calls cpu capacity (t ∷ []) (b .state) (w .ring) (i .holds) in
+      record {
+        holds = same .1;
+        reader-is = i .reader-is
+            ∙ ap (λ (n : ℕ). recordOf n (w .reader)) (sym (generation-stays cpu capacity (t ∷ []) (b .state) (w .ring) (i .holds)));
+        since-is = ap₂ (λ (l : List (Numbered Event)) (ks : List (Call Event)). l ++ accepted ks) (i .since-is) (same .0);
+      }
 
   -- ---- an emptying
 
-  module _ (room : ℕ) (s : State) (ring : Ring Event) (h : Holds cpu capacity (s .ring) (s .writer) ring) where
-    abbrev generation : ℕ
-    generation = pageOf (s .ring) .generation
+  -- whatever reads, it hands out the latest that fit
+  pub hands-latest : (read : Read) (b : Watched) (w : Ideal Event) → Follows b w → (o : Emptied read cpu capacity b)
+      → o .events ≡ latest (bytes size) capacity (w .since)
+  hands-latest read b w i o =
+      longest-latest (bytes size) capacity (w .since) (o .events)
+      (subst₂ (λ (f : Numbered Event → ℕ) (all : List (Numbered Event)). LongestRun f capacity all (o .events)) (encode-lengths cpu) (i .since-is) (o .longest))
 
-    -- one event at each read, and then EMPTY
-    empties : (u : List (Numbered Event)) (r : Place) → Following size ring r → unread size ring r ≡ u → Within room u
-        → Empties readOut room (s .ring) (recordOf generation r) (map (encode cpu) u) (recordOf generation (finished size ring r u))
-    empties [] r f e small =
-        λ lent.
-        read-none cpu capacity (consumed (s .ring) (lent .page)) (s .writer) ring
-        (consumed-holds cpu capacity (s .ring) (lent .page) (s .writer) ring (lent .whole) h) r f generation (lent .out) e
-        (consumed-generation (s .ring) (lent .page) (lent .whole) (h .sound))
-    empties (x ∷ u) r f e small =
-        let more : r .handed + 1 + length u ≡ r .handed + suc (length u) = omega arith in
-        let end : finished size ring (past size ring r x) u ≡ finished size ring r (x ∷ u) =
-        λ i. record { read-pos = write size ring; last = lastOf sequenceOf (x .sequence) u; handed = more i } in (
-          recordOf generation (past size ring r x),
-          λ lent.
-              read-one cpu capacity (consumed (s .ring) (lent .page)) (s .writer) ring
-              (consumed-holds cpu capacity (s .ring) (lent .page) (s .writer) ring (lent .whole) h) r f generation (lent .out) x u e
-              (omega (arith, small .0, lent .roomy)),
-          subst (λ (q : Place). Empties readOut room (s .ring) (recordOf generation (past size ring r x)) (map (encode cpu) u) (recordOf generation q)) end
-              (empties u (past size ring r x) (following-past size positive ring r x u f e) (unread-past size positive ring r x u f e) (small .1)),
-        )
-
-  module _ (room : ℕ) (b : Watched) (w : Ideal Event) (i : Follows b w) (a : Attended size capacity w) where
+  module _ (b : Watched) (w : Ideal Event) (i : Follows b w) (a : Attended size capacity w) where
     abbrev left : List (Numbered Event)
     left = unread size (w .ring) (w .reader)
 
     abbrev pub endOf : Reader
     endOf = recordOf (pageOf (b .state .ring) .generation) (finished size (w .ring) (w .reader) (unread size (w .ring) (w .reader)))
 
-    module _ (small : Within room (unread size (w .ring) (w .reader))) where
-      pub ended : Empties readOut room (b .state .ring) (b .reader) (map (encode cpu) left) endOf
-      ended =
-          subst (λ (r : Reader). Empties readOut room (b .state .ring) r (map (encode cpu) left) endOf) (sym (i .reader-is))
-          (empties room (b .state) (w .ring) (i .holds) left (w .reader) (a .following) refl small)
+    pub ended : Empties readOut (b .state .ring) (b .reader) (map (encode cpu) left) endOf
+    ended =
+        subst (λ (r : Reader). Empties readOut (b .state .ring) r (map (encode cpu) left) endOf) (sym (i .reader-is))
+        (empties cpu capacity (b .state .ring) (b .state .writer) (w .ring) (i .holds) left (w .reader) (a .following) refl)
 
-      pub longest : LongestRun (λ (x : Numbered Event). length (encode cpu x)) capacity (b .since) left
-      longest =
-          subst₂ (λ (f : Numbered Event → ℕ) (all : List (Numbered Event)). LongestRun f capacity all left) (sym (encode-lengths cpu)) (sym (i .since-is))
-          (longest-iff (bytes size) capacity (w .since) left .1 (a .left))
+    pub longest : LongestRun (λ (x : Numbered Event). length (encode cpu x)) capacity (b .since) left
+    longest =
+        subst₂ (λ (f : Numbered Event → ℕ) (all : List (Numbered Event)). LongestRun f capacity all left) (sym (encode-lengths cpu)) (sym (i .since-is))
+        (longest-iff (bytes size) capacity (w .since) left .1 (a .left))
 
-      pub last : endOf .last ≡ lastOf sequenceOf (b .reader .last) left
-      last = ap (λ (r : Reader). lastOf sequenceOf (r .last) left) (sym (i .reader-is))
-
-      pub counted : endOf .handed ≤ endOf .last
-      counted = following-finished size positive (w .ring) (w .reader) (a .following) .handed
-
-      abbrev pub emptied : Emptied readOut cpu capacity room b
-      emptied = record {
-        events = left;
-        end = endOf;
-        ended = ended;
-        longest = longest;
-        last = last;
-        handed = omega (arith, ap (λ (r : Reader). r .handed) (i .reader-is));
-        counted = counted;
-      }
+    abbrev pub emptied : Emptied readOut cpu capacity b
+    emptied = record {
+      events = left;
+      end = endOf;
+      ended = ended;
+      longest = longest;
+      last = ap (λ (r : Reader). lastOf sequenceOf (r .last) left) (sym (i .reader-is));
+      handed = omega (arith, ap (λ (r : Reader). r .handed) (i .reader-is));
+      counted = following-finished size positive (w .ring) (w .reader) (a .following) .handed;
+    }
 
     pub follows-emptying : Follows (emptying b endOf) (idealEmptying size w)
     follows-emptying = record {

@@ -1,5 +1,4 @@
-pub mod Sizes
-pub mod Read
+pub mod NewlyAttached
 pub mod Following
 pub mod Ends
 pub mod Demand3

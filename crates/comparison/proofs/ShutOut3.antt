@@ -1,23 +1,30 @@
--- A read that never hands out an event doesn't meet the third demand: one event given to two rings of 256 bytes, and both emptied, tell it.
+-- One event given to a ring of 256 bytes tells of a read that never hands out an event, and of attaching behind it.
 use Prim.Native.Nat.{ℕ, _+_}
 use native.Mathlib.Omega.{arith}
-use mathlib.Core.Path.{_≡_, refl, ap, _∙_, subst}
-use mathlib.Core.List.{List, [], _∷_, _++_, map}
+use mathlib.Core.Path.{_≡_, refl, sym, ap, _∙_, subst}
+use mathlib.Core.List.{List, [], _∷_, map}
 use lib.ListN.{length, replicate, length-replicate}
 use Rattle.reader_rules.specs.declared.Reader.{Reader}
-use Rattle.run_rules.specs.Runs.{latest}
-use Rattle.history.specs.Ring.{Numbered, Answer}
-use Rattle.history.specs.Calls.{accepts}
-use Rattle.run_rules.proofs.Runs.{latest-fits, longest-latest}
-use Rattle.promise.specs.Bytes.{Event, encode, consumed, emitted}
+use Rattle.run_rules.specs.Runs.{latest, older}
+use Rattle.history.specs.Ring.{Numbered, Ring, fresh}
+use Rattle.history.proofs.Ideal.{emit}
+use Rattle.history.proofs.IdealServed.{start, idealEmission}
+use Rattle.promise.specs.Bytes.{Event, size, encode, consumed, made}
+use Rattle.promise.specs.Holds.{Holds}
+use Rattle.promise.specs.Demand2.{NoneRefused}
 use Rattle.promise.proofs.Encoding.{encode-length}
-use Rattle.promise.proofs.ShutOut2.{fit, early, event, accepted-first}
-use Rattle.comparison.specs.Emptying.{Watched, started, emission, Read, Empties, Emptied}
-use Rattle.comparison.specs.Comparison.{Consumer, turn, Emission, Emptying, Fair, NoLess, DemandBy3}
-use Rattle.comparison.specs.ShutOut3.{idle, refusingRead, ShutOut3}
-use Rattle.comparison.proofs.Ends.{lend, count}
+use Rattle.promise.proofs.Consumer.{consumed-holds}
+use Rattle.promise.proofs.Generation.{consumed-generation}
+use Rattle.promise.proofs.Reading.{reads-empty}
+use Rattle.promise.proofs.Unrefused.{unrefused2}
+use Rattle.promise.proofs.ShutOut2.{fit, early, event}
+use Rattle.comparison.specs.Emptying.{Watched, started, emission, Read, Empties, Emptied, NewlyAttachedBy}
+use Rattle.comparison.specs.Comparison.{turn, Emission, Emptying, Half, Promise3, DemandBy3}
+use Rattle.comparison.specs.ShutOut3.{idle, refusingRead, atWrite, ShutOut3}
+use Rattle.comparison.proofs.Ends.{consumer, lent, enough, count}
+use Rattle.comparison.proofs.Following.{Follows, follows-start, follows-emission, hands-latest}
 
-module _ (buffer : List ℕ) (long : length buffer ≡ 8192 + 256) (consumer : Consumer) (any : Reader) where
+module _ (buffer : List ℕ) (long : length buffer ≡ 8192 + 256) (any : Reader) where
   abbrev begun : Watched
   begun = started 0 buffer any
 
@@ -27,44 +34,63 @@ module _ (buffer : List ℕ) (long : length buffer ≡ 8192 + 256) (consumer : C
   abbrev stands : Watched
   stands = emission begun (turn given consumer)
 
-  fair : Fair 256 begun begun given consumer consumer
-  fair = record {
-    half = omega arith;
-    smaller = accepted-first buffer long (consumer .page) (consumer .whole);
-    larger = accepted-first buffer long (consumer .page) (consumer .whole);
-  }
+  begins : Follows 0 256 begun start
+  begins = follows-start 0 256 (omega arith) fit buffer long any
 
-  -- the one event accepted, under the sequence that its call gave
+  follows : Follows 0 256 stands (idealEmission size 256 start given)
+  follows = follows-emission 0 256 begun start (turn given consumer) begins
+
+  unrefused : NoneRefused (made (begun .state) (turn given consumer ∷ []))
+  unrefused = unrefused2 0 256 fresh (begun .state) (begins .holds) (turn given consumer ∷ []) (omega arith) (omega arith)
+
+  -- the one event kept
   abbrev kept : Numbered Event
-  kept = record { sequence = emitted (begun .state) (turn given consumer) .answer .writer .last; event = given }
+  kept = record { sequence = 1; event = given }
 
-  module _ (read : Read) (never : (s : List ℕ) (reader : Reader) (out : List ℕ) → count (read s reader out) ≡ 0) (meets : DemandBy3 read) where
-    abbrev found : NoLess read 0 256 256 begun begun (Emission given consumer consumer ∷ Emptying ∷ [])
-    found =
-        meets 0 256 256 (omega arith) fit fit (omega arith) buffer buffer long long any any (Emission given consumer consumer ∷ Emptying ∷ []) .2
-
-    one : Emptied read 0 256 128 stands
-    one = found fair .2 .0
+  module _ (read : Read) (never : (s : List ℕ) (reader : Reader) (out : List ℕ) → count (read s reader out) ≡ 0) (meets : DemandBy3 read Half Promise3) where
+    one : Emptied read 0 256 stands
+    one =
+        meets 0 256 256 (omega arith) fit fit (omega arith) buffer buffer long long any any (Emission given consumer consumer ∷ Emptying ∷ [])
+        (omega arith) unrefused unrefused .0
 
     -- it has to hand out that event
     due : one .events ≡ kept ∷ []
-    due =
-        let since : stands .since ≡ kept ∷ [] = ap (λ (a : Answer). accepts a kept ++ []) (found fair .0) in
-        let bytes : Numbered Event → ℕ = λ (x : Numbered Event). length (encode 0 x) in
-        longest-latest bytes 256 (stands .since) (one .events) (one .longest)
-        ∙ ap (latest bytes 256) since
-        ∙ latest-fits bytes 256 (kept ∷ []) (omega (arith, encode-length 0 kept))
+    unfolding emit latest older
+    due = hands-latest 0 256 read stands (idealEmission size 256 start given) follows one ∙ refl
 
-    pub shut : ⊥
+    shut : ⊥
     shut =
-        let ended : Empties read 128 (stands .state .ring) (stands .reader) (map (encode 0) (kept ∷ [])) (one .end) =
-        subst (λ (l : List (Numbered Event)). Empties read 128 (stands .state .ring) (stands .reader) (map (encode 0) l) (one .end)) due (one .ended) in
-        omega (arith, ap count (ended .1 (lend 128)), never (consumed (stands .state .ring) (lend 128 .page)) (stands .reader) (lend 128 .out))
+        let ended : Empties read (stands .state .ring) (stands .reader) (map (encode 0) (kept ∷ [])) (one .end) =
+        subst (λ (l : List (Numbered Event)). Empties read (stands .state .ring) (stands .reader) (map (encode 0) l) (one .end)) due (one .ended) in
+        let out : List ℕ = lent 32 in
+        omega (
+          arith,
+          ap count (ended .1 consumer out (enough (length (encode 0 kept)) 32 (omega (arith, encode-length 0 kept)))),
+          never (consumed (stands .state .ring) (consumer .page)) (stands .reader) out,
+        )
+
+  -- a reader attached at the write position is told EMPTY
+  at-write-shut : NewlyAttachedBy atWrite → ⊥
+  unfolding emit latest older
+  at-write-shut meets =
+      let s : List ℕ = stands .state .ring in
+      let ring : Ring Event = idealEmission size 256 start given .ring in
+      let t : List ℕ = consumed s (consumer .page) in
+      let h : Holds 0 256 t (stands .state .writer) ring =
+      consumed-holds 0 256 s (consumer .page) (stands .state .writer) ring (consumer .whole) (follows .holds) in
+      let reader : Reader = atWrite s any .reader in
+      let out : List ℕ = lent 32 in
+      let handed = meets 0 256 s (stands .state .writer) ring (follows .holds) any .1 .1 consumer out
+      (enough (length (encode 0 kept)) 32 (omega (arith, encode-length 0 kept))) in
+      let none = reads-empty 0 256 t (stands .state .writer) ring h reader out (omega (arith, follows .holds .write-is, h .tail-is))
+      (omega (arith, follows .holds .write-is)) (omega arith) (consumed-generation s (consumer .page) (consumer .whole) (follows .holds .sound)) in
+      omega (arith, ap count (sym handed ∙ none))
 
 pub shut-out3 : ShutOut3
 shut-out3 = record {
-  answers-empty = shut buffer long consumer any idle (λ s reader out. refl);
-  refuses = λ r. shut buffer long consumer any (refusingRead r) (λ s reader out. refl);
+  answers-empty = shut buffer long any idle (λ s reader out. refl);
+  refuses = λ r. shut buffer long any (refusingRead r) (λ s reader out. refl);
+  attaches-at-the-end = at-write-shut buffer long any;
 }
   where
     buffer : List ℕ
@@ -72,9 +98,6 @@ shut-out3 = record {
 
     long : length buffer ≡ 8192 + 256
     long = length-replicate {A = ℕ} 8448 0
-
-    consumer : Consumer
-    consumer = record { page = replicate 4096 0; whole = length-replicate {A = ℕ} 4096 0 }
 
     any : Reader
     any = record { «read_pos» = 0; last = 0; handed = 0; generation = 0 }

@@ -4,15 +4,79 @@ use Prim.Native.Nat.{ℕ, _+_, _≤_}
 use mathlib.Core.Path.{_≡_}
 use mathlib.Core.List.{List, [], _∷_, _++_, map}
 use lib.ListN.{length, drop}
+use Rattle.page_rules.specs.Page.{pageOf}
 use Rattle.create_rules.specs.Create.{afterCreate}
+use Rattle.writer_rules.specs.declared.Writer.{Writer}
 use Rattle.reader_rules.specs.Attach.{attached}
-use Rattle.reader_rules.specs.Read.{AfterRead}
+use Rattle.reader_rules.specs.Read.{AfterRead, readOut}
 use Rattle.reader_rules.specs.declared.Reader.{Reader}
+use Rattle.reader_rules.specs.declared.Attached.{Attached}
+use Rattle.reader_rules.specs.declared.Attachment.the-variants as attachment
 use Rattle.reader_rules.specs.declared.Reading.the-variants as reading
 use Rattle.run_rules.specs.Runs.{lastOf, LongestRun}
-use Rattle.history.specs.Ring.{sequenceOf, Numbered}
-use Rattle.promise.specs.Bytes.{Event, encode, State, consumed, Turn, emitted, left, acceptedOf}
+use Rattle.history.specs.Ring.{sequenceOf, Numbered, Ring}
+use Rattle.promise.specs.Bytes.{Event, encode, State, consumed, Turn, made, after, acceptedOf}
+use Rattle.promise.specs.Holds.{Holds}
 use Rattle.promise.specs.Demand2.{createdState}
+
+-- what a ring's consumer wrote into bytes 4096 to 8191
+pub record Consumer : Type 0 where
+  pub page : List ℕ
+  pub whole : length page ≡ 4096
+
+-- ---- reading until EMPTY
+
+-- whatever reads: of the ring's bytes, the record and the output buffer it gives the answer, the record handed back and the buffer's bytes left
+abbrev pub Read : Type 0
+Read = List ℕ → Reader → List ℕ → AfterRead
+
+-- with any output buffer that holds it: the event's bytes stand at the front, the answer gives their number, the rest of the buffer stays
+abbrev pub Hands : Read → List ℕ → Reader → List ℕ → Reader → Type 0
+Hands read s reader event next =
+    (consumer : Consumer) (out : List ℕ) → length event ≤ length out →
+    read (consumed s (consumer .page)) reader out ≡ record {
+      answered = record { answer = reading.Event (length event); reader = next };
+      out = event ++ drop (length event) out;
+    }
+
+-- EMPTY: neither MOVED nor a refusal, and nothing written
+abbrev pub Ends : Read → List ℕ → Reader → Reader → Type 0
+Ends read s reader end =
+    (consumer : Consumer) (out : List ℕ) →
+    read (consumed s (consumer .page)) reader out ≡ record { answered = record { answer = reading.Empty; reader = end }; out = out }
+
+-- reading until EMPTY hands out these events' bytes, one event at each read, and leaves the reader's record as `end`
+abbrev pub Empties : Read → List ℕ → Reader → List (List ℕ) → Reader → Type 0
+Empties read s reader [] end = Ends read s reader end
+Empties read s reader (event ∷ events) end = (next : Reader) × Hands read s reader event next × Empties read s next events end
+
+-- whatever its reads are lent, an emptying can end in no other way
+abbrev pub OneEnd : Type 0
+OneEnd =
+    (read : Read) (s : List ℕ) (reader : Reader) (events others : List (List ℕ)) (one other : Reader) →
+    Empties read s reader events one → Empties read s reader others other →
+    (events ≡ others) × (one ≡ other)
+
+abbrev pub Attach : Type 0
+Attach = List ℕ → Reader → Attached
+
+-- A reader newly attached to any ring that holds together is handed exactly the events kept until EMPTY, and its record counts them. `any` is the
+-- record that attaching was given
+abbrev pub NewlyAttachedBy : Attach → Type 0
+NewlyAttachedBy attach =
+    (cpu capacity : ℕ) (s : List ℕ) (w : Writer) (ring : Ring Event) → Holds cpu capacity s w ring → (any : Reader) →
+    (attach s any .answer ≡ attachment.Done)
+    × Empties readOut s (attach s any .reader) (map (encode cpu) (ring .kept)) (record {
+      «read_pos» = pageOf s .«write_pos»;
+      last = lastOf sequenceOf 0 (ring .kept);
+      handed = length (ring .kept);
+      generation = pageOf s .generation;
+    })
+
+abbrev pub NewlyAttached : Type 0
+NewlyAttached = NewlyAttachedBy attached
+
+-- ---- a ring with its one reader
 
 -- the ring's bytes and the writer's record, the reader's record, and the events accepted since the last emptying: as in the second demand they are
 -- told from the answers, each under the last sequence of the record that its call handed back
@@ -21,66 +85,24 @@ pub record Watched : Type 0 where
   pub reader : Reader
   pub since : List (Numbered Event)
 
--- "with one writer and a reader attached at the start": `any` is the record that attaching was given
+-- "with one writer and a reader attached at the start"
 abbrev pub started : ℕ → List ℕ → Reader → Watched
 started cpu buffer any = record { state = createdState cpu buffer; reader = attached (afterCreate cpu buffer) any .reader; since = [] }
 
 abbrev pub emission : Watched → Turn → Watched
 emission w t = record {
-  state = left (emitted (w .state) t);
+  state = after (w .state) (t ∷ []);
   reader = w .reader;
-  since = w .since ++ acceptedOf (record { turn = t; answer = emitted (w .state) t .answer } ∷ []);
+  since = w .since ++ acceptedOf (made (w .state) (t ∷ []));
 }
 
--- whatever reads: of the ring's bytes, the record and the output buffer it gives the answer, the record handed back and the buffer's bytes left
-abbrev pub Read : Type 0
-Read = List ℕ → Reader → List ℕ → AfterRead
-
--- what one read is lent: what the consumer wrote into bytes 4096 to 8191 before it, and an output buffer of `room` bytes or more
-pub record Lent (room : ℕ) : Type 0 where
-  pub page : List ℕ
-  pub whole : length page ≡ 4096
-  pub out : List ℕ
-  pub roomy : room ≤ length out
-
--- all that a read leaves: its answer, its record and the output buffer
-abbrev pub left-by : {room : ℕ} → Read → List ℕ → Reader → Lent room → AfterRead
-left-by read s reader lent = read (consumed s (lent .page)) reader (lent .out)
-
--- the event's bytes stand at the front of the output buffer, the answer gives their number, the rest of the buffer stays
-abbrev pub Hands : Read → ℕ → List ℕ → Reader → List ℕ → Reader → Type 0
-Hands read room s reader event next =
-    (lent : Lent room) →
-    left-by read s reader lent ≡ record {
-      answered = record { answer = reading.Event (length event); reader = next };
-      out = event ++ drop (length event) (lent .out);
-    }
-
--- EMPTY: neither MOVED nor a refusal, and nothing written
-abbrev pub Ends : Read → ℕ → List ℕ → Reader → Reader → Type 0
-Ends read room s reader end =
-    (lent : Lent room) →
-    left-by read s reader lent ≡ record { answered = record { answer = reading.Empty; reader = end }; out = lent .out }
-
--- reading until EMPTY hands out these events' bytes, one event at each read, and leaves the reader's record as `end`
-abbrev pub Empties : Read → ℕ → List ℕ → Reader → List (List ℕ) → Reader → Type 0
-Empties read room s reader [] end = Ends read room s reader end
-Empties read room s reader (event ∷ events) end = (next : Reader) × Hands read room s reader event next × Empties read room s next events end
-
--- whatever its reads are lent, an emptying can end in no other way
-abbrev pub OneEnd : Type 0
-OneEnd =
-    (read : Read) (room : ℕ) (s : List ℕ) (reader : Reader) (events others : List (List ℕ)) (one other : Reader) →
-    Empties read room s reader events one → Empties read room s reader others other →
-    (events ≡ others) × (one ≡ other)
-
 -- an emptying of the ring as it stands: a read that always answers EMPTY breaks `longest`
-pub record Emptied (read : Read) (cpu capacity room : ℕ) (w : Watched) : Type 0 where
+pub record Emptied (read : Read) (cpu capacity : ℕ) (w : Watched) : Type 0 where
   -- what it hands out, in order
   pub events : List (Numbered Event)
   pub end : Reader
   -- it ends, after as many reads as events and one that answers EMPTY
-  pub ended : Empties read room (w .state .ring) (w .reader) (map (encode cpu) events) end
+  pub ended : Empties read (w .state .ring) (w .reader) (map (encode cpu) events) end
   -- of the events accepted since the last emptying, the longest run of latest ones that fits
   pub longest : LongestRun (λ (x : Numbered Event). length (encode cpu x)) capacity (w .since) events
   -- missed is what the record says: "handed [goes up] by one, last becomes its sequence", for each event ..

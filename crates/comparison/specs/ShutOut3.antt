@@ -1,9 +1,13 @@
--- Wrong reads that don't meet the third demand.
+-- Wrong reads that don't meet the third demand, and a wrong attaching.
 use Rattle.table_rules.specs.declared.Refusal.{Refusal}
+use Rattle.page_rules.specs.Page.{pageOf}
+use Rattle.reader_rules.specs.Reader.{movedTo}
+use Rattle.reader_rules.specs.Attach.{atTail}
 use Rattle.reader_rules.specs.Read.{untouched}
+use Rattle.reader_rules.specs.declared.Attachment.the-variants as attachment
 use Rattle.reader_rules.specs.declared.Reading.the-variants as reading
-use Rattle.comparison.specs.Emptying.{Read}
-use Rattle.comparison.specs.Comparison.{DemandBy3}
+use Rattle.comparison.specs.Emptying.{Read, Attach, NewlyAttachedBy}
+use Rattle.comparison.specs.Comparison.{Half, Promise3, DemandBy3}
 
 -- always answers EMPTY
 abbrev pub idle : Read
@@ -13,6 +17,11 @@ idle s reader out = record { answered = record { answer = reading.Empty; reader 
 abbrev pub refusingRead : Refusal → Read
 refusingRead r s reader out = untouched reader out r
 
+-- attaches at the write position
+abbrev pub atWrite : Attach
+atWrite s any = record { answer = attachment.Done; reader = movedTo (pageOf s .«write_pos») (atTail (pageOf s)) }
+
 pub record ShutOut3 : Type 0 where
-  pub answers-empty : DemandBy3 idle → ⊥
-  pub refuses : (r : Refusal) → DemandBy3 (refusingRead r) → ⊥
+  pub answers-empty : DemandBy3 idle Half Promise3 → ⊥
+  pub refuses : (r : Refusal) → DemandBy3 (refusingRead r) Half Promise3 → ⊥
+  pub attaches-at-the-end : NewlyAttachedBy atWrite → ⊥

@@ -1,4 +1,4 @@
--- One read on bytes that hold a ring: it answers as on the ring without bytes, and hands back the same record.
+-- Attaching and one read on bytes that hold a ring: the answer and the record are those of the ring without bytes.
 use Prim.Native.Nat.{ℕ, _+_, _^_, _≤_, _<_}
 use native.Mathlib.Omega.{arith}
 use mathlib.Core.Path.{_≡_, sym, ap, _∙_, subst}
@@ -7,25 +7,32 @@ use lib.ListN.{length, drop}
 use Rattle.page_rules.specs.Page.{pageOf}
 use Rattle.page_rules.specs.declared.Page.{Page}
 use Rattle.writer_rules.specs.declared.Writer.{Writer}
-use Rattle.reader_rules.specs.Read.{readOut}
-use Rattle.reader_rules.specs.Read.{readingPlace}
+use Rattle.reader_rules.specs.Attach.{attached}
+use Rattle.reader_rules.specs.Read.{readOut, readingPlace}
 use Rattle.reader_rules.specs.declared.Reader.{Reader}
+use Rattle.reader_rules.specs.declared.Attachment.the-variants as attachment
 use Rattle.reader_rules.specs.declared.Reading.the-variants as reading
+use Rattle.reader_rules.proofs.Attaching.{attach-done}
 use Rattle.run_rules.specs.Runs.{Rising, lastOf, total}
 use Rattle.history.specs.Ring.{sequenceOf, Numbered, Ring, bytes, write}
-use Rattle.history.proofs.IdealReading.{Following, unread, placeIn}
-use Rattle.history.proofs.IdealReading.{Place}
+use Rattle.history.proofs.IdealReading.{Place, attachAt, Following, unread, placeIn}
 use Rattle.run_rules.proofs.Rising.{rising-length}
 use Rattle.history.proofs.Reading.{following-splits}
 use Rattle.history.proofs.Emptying.{past, finished}
 use Rattle.promise.specs.Bytes.{Event, size, encode}
 use Rattle.promise.specs.Holds.{Holds}
 use Rattle.promise.proofs.Encoding.{encode-length}
 use Rattle.promise.proofs.Reading.{reads-empty, reads-event}
 
 -- the record of a reader of the ring without bytes, with a generation
 abbrev pub recordOf : ℕ → Place → Reader
 recordOf generation r = record { «read_pos» = r .read-pos; last = r .last; handed = r .handed; generation = generation }
+
+pub attaches : (cpu capacity : ℕ) (s : List ℕ) (w : Writer) (ring : Ring Event) → Holds cpu capacity s w ring → (any : Reader)
+    → attached s any ≡ record { answer = attachment.Done; reader = recordOf (pageOf s .generation) (attachAt ring) }
+attaches cpu capacity s w ring h any =
+    attach-done s any (pageOf s) (h .sound)
+    ∙ (λ i. record { answer = attachment.Done; reader = record { «read_pos» = h .tail-is i; last = 0; handed = 0; generation = pageOf s .generation } })
 
 module _ (cpu capacity : ℕ) (s : List ℕ) (w : Writer) (ring : Ring Event) (h : Holds cpu capacity s w ring)
     (r : Place) (f : Following size ring r) (generation : ℕ) (out : List ℕ) where

@@ -1,5 +1,6 @@
 pub mod NewlyAttached
 pub mod Following
 pub mod Ends
+pub mod Histories
 pub mod Demand3
 pub mod ShutOut3

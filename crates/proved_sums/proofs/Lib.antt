@@ -3,5 +3,6 @@ pub mod Shown
 pub mod Lived
 pub mod Swapped
 pub mod Stretches
+pub mod AnySize
 pub mod Sums
 pub mod Zeros

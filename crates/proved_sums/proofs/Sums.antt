@@ -15,15 +15,16 @@ use Rattle.reader_rules.specs.Read.{AfterRead, readOut}
 use Rattle.reader_rules.specs.declared.Reader.{Reader}
 use Rattle.reader_rules.specs.declared.Attachment.the-variants.{Done}
 use Rattle.reader_rules.specs.declared.Reading.the-variants as reading
-use Rattle.reader_rules.proofs.Attaching.{attach-done}
 use Rattle.writer_rules.specs.declared.Writer.{Writer}
 use Rattle.run_rules.specs.Runs.{latest, older}
-use Rattle.history.specs.Ring.{Numbered, Ring, write}
+use Rattle.history.specs.Ring.{Numbered, Ring, fresh, write}
 use Rattle.history.proofs.Ideal.{emit, swap}
 use Rattle.history.proofs.Ideal.{calls, after}
 use Rattle.promise.specs.Bytes.{Event, size, Turn}
 use Rattle.promise.specs.Holds.{Holds}
+use Rattle.promise.specs.Demand2.{zeros}
 use Rattle.promise.proofs.Reading.{event-at, reads-event, reads-empty}
+use Rattle.promise.proofs.OneRead.{attaches as attach-held}
 use Rattle.promise.proofs.Encoding.{encode-length}
 use Rattle.proved_sums.specs.Lives.{cut, paid, lived, swapped, retired, Shows}
 use Rattle.proved_sums.specs.Sums.{one, two, three, four, five, ten, standing, answering, Reads, bytesOf, AllSums}
@@ -31,6 +32,7 @@ use Rattle.proved_sums.proofs.Shown.{numbers, recordOf, shows}
 use Rattle.proved_sums.proofs.Lived.{reached, begins, first-generation, lived-holds, lived-shows, lived-answers, lived-generation}
 use Rattle.proved_sums.proofs.Swapped.{swapped-holds, new-generation, old-generation}
 use Rattle.proved_sums.proofs.Stretches.{stretches}
+use Rattle.proved_sums.proofs.AnySize.{any-size-ends, any-size-fails}
 
 module _ (given : ℕ → Turn) (buffer : ℕ → List ℕ) (sized : (capacity : ℕ) → length (buffer capacity) ≡ 8192 + capacity) where
   -- ---- line 4: where event 7 lies
@@ -53,11 +55,8 @@ module _ (given : ℕ → Turn) (buffer : ℕ → List ℕ) (sized : (capacity :
   attaches : (old : Reader) → attached (afterCreate 3 (buffer 256)) old ≡ record { answer = Done; reader = standing 0 0 0 }
   unfolding allowed powerAmong
   attaches old =
-      let s : List ℕ = afterCreate 3 (buffer 256) in
-      let h = begins given buffer sized 256 refl in
-      let generation = first-generation given buffer sized 256 refl in
-      attach-done s old (pageOf s) (h .sound)
-      ∙ (λ i. record { answer = Done; reader = record { «read_pos» = h .tail-is i; last = 0; handed = 0; generation = generation i } })
+      attach-held 3 256 (afterCreate 3 (buffer 256)) zeros fresh (begins given buffer sized 256 refl) old
+      ∙ ap (λ (n : ℕ). record { answer = Done; reader = record { «read_pos» = 0; last = 0; handed = 0; generation = n } }) (first-generation given buffer sized 256 refl)
 
   reads : (out : List ℕ) → 128 ≤ length out → Reads (lived given buffer 256 five .ring) out (bytesOf given 6) (bytesOf given 7)
   unfolding allowed powerAmong emit latest older after cut
@@ -126,5 +125,10 @@ sums given buffer sized = record {
   );
   line8 = swap-shows given buffer sized 512 256 refl refl (0 ∷ 224 ∷ []) refl refl refl refl;
   line9 = swap-shows given buffer sized 1024 256 refl refl (480 ∷ []) refl refl refl refl;
-  line10 = (lived-shows given buffer sized 256 refl ten refl refl refl refl, lived-shows given buffer sized 512 refl ten refl refl refl refl);
+  line10 = (
+    lived-shows given buffer sized 256 refl ten refl refl refl refl,
+    lived-shows given buffer sized 512 refl ten refl refl refl refl,
+    any-size-ends,
+    any-size-fails given buffer sized,
+  );
 }

@@ -12,9 +12,11 @@ use Rattle.reader_rules.specs.Read.{AfterRead, readOut}
 use Rattle.reader_rules.specs.declared.Reader.{Reader}
 use Rattle.reader_rules.specs.declared.Attachment.the-variants as attachment
 use Rattle.reader_rules.specs.declared.Reading.{Reading}
-use Rattle.reader_rules.specs.declared.Reading.the-variants.{Event, Empty}
+use Rattle.reader_rules.specs.declared.Reading.the-variants as reading
+use Rattle.run_rules.specs.Runs.{EndPart}
 use Rattle.history.specs.Ring.{Done, Dropped}
-use Rattle.promise.specs.Bytes.{encode, Turn}
+use Rattle.promise.specs.Bytes.{Event, encode, Turn}
+use Rattle.comparison.specs.Comparison.{DemandBy3}
 use Rattle.proved_sums.specs.Lives.{paid, lived, answers, swapped, retired, Shows}
 
 -- ---- "the state goes on from line to line": the payload lengths up to each line
@@ -51,11 +53,17 @@ answering answer reader out = record { answered = record { answer = answer; read
 
 -- three reads one after the other, each with the record and the output buffer that the one before left: the answer, the record and every byte
 pub record Reads (ring out six seven : List ℕ) : Type 0 where
-  pub first : readOut ring (standing 0 0 0) out ≡ answering (Event 128) (standing 416 6 1) (six ++ drop 128 out)
+  pub first : readOut ring (standing 0 0 0) out ≡ answering (reading.Event 128) (standing 416 6 1) (six ++ drop 128 out)
   pub first-missed : missed (readOut ring (standing 0 0 0) out .answered .reader) ≡ 5
-  pub second : readOut ring (standing 416 6 1) (six ++ drop 128 out) ≡ answering (Event 128) (standing 544 7 2) (seven ++ drop 128 out)
+  pub second : readOut ring (standing 416 6 1) (six ++ drop 128 out) ≡ answering (reading.Event 128) (standing 544 7 2) (seven ++ drop 128 out)
   pub second-missed : missed (readOut ring (standing 416 6 1) (six ++ drop 128 out) .answered .reader) ≡ 5
-  pub third : readOut ring (standing 544 7 2) (seven ++ drop 128 out) ≡ answering Empty (standing 544 7 2) (seven ++ drop 128 out)
+  pub third : readOut ring (standing 544 7 2) (seven ++ drop 128 out) ≡ answering reading.Empty (standing 544 7 2) (seven ++ drop 128 out)
+
+-- ---- line 10
+
+-- no premise on size
+abbrev pub AnySize : ℕ → Event → Type 0
+AnySize c e = Unit {0}
 
 -- ---- the table
 
@@ -89,9 +97,12 @@ module _ (given : ℕ → Turn) where
     pub line8 : Shows (swapped buffer 256 (lived given buffer 512 (0 ∷ 224 ∷ []))) 256 0 256 (2 ∷ []) (counted 2 0 1)
     -- "Ring 1024, one event of 512, swapped to 256: nothing kept, tail and write 0."
     pub line9 : Shows (swapped buffer 256 (lived given buffer 1024 (480 ∷ []))) 256 0 0 [] (counted 1 0 1)
-    -- "Sizes 32, 32, 256, 256 into 256 and into 512: the first keeps 1 and 2, the second 3 and 4."
+    -- "Sizes 32, 32, 256, 256 into 256 and into 512: the first keeps 1 and 2, the second 3 and 4. The premise on size in the third demand can't go."
     pub line10 : Shows (lived given buffer 256 ten) 256 0 64 (1 ∷ 2 ∷ []) (counted 4 2 0)
         × Shows (lived given buffer 512 ten) 512 64 576 (3 ∷ 4 ∷ []) (counted 4 0 2)
+        -- without it each emptying still ends with the longest run handed out, but the smaller's isn't always the end part of the larger's
+        × DemandBy3 readOut AnySize (λ less more small large. Unit {0})
+        × (DemandBy3 readOut AnySize (λ less more small large. EndPart less more) → ⊥)
 
 -- for all of that, as long as each buffer has its length
 abbrev pub AllSums : Type 0

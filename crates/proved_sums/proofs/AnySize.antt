@@ -27,6 +27,10 @@ use Rattle.comparison.proofs.Histories.{no-less}
 use Rattle.proved_sums.specs.Lives.{cut, paid, turns}
 use Rattle.proved_sums.specs.Sums.{ten, AnySize}
 
+-- every event passes
+no-premise : (c : ℕ) (e : Event) → AnySize c e
+no-premise c e = tt
+
 pub any-size-ends : DemandBy3 readOut AnySize (λ less more small large. Unit {0})
 any-size-ends cpu c C narrow fit fits order buffer larger long longer any other steps =
     no-less cpu c C AnySize (λ less more small large. Unit {0}) (λ (w W : Ideal Event). Attended size c w × Attended size C W)
@@ -61,20 +65,16 @@ follows-along cpu capacity (t ∷ ts) b w i =
     follows-along cpu capacity ts (emission b t) (idealEmission size capacity w (t .event)) (follows-emission cpu capacity b w t i)
 
 module _ (cpu c C : ℕ) where
-  abbrev Meet : List Turn → Type 0
-  Meet [] = Unit {0}
-  Meet (t ∷ ts) = AnySize c (t .event) × Meet ts
-
-  -- what is said then, if the premises are met
-  said : (ts : List Turn) (small large : Watched) → Meet ts → NoneRefused (made (small .state) ts) → NoneRefused (made (large .state) ts)
+  -- what is said then, if no call is refused
+  said : (ts : List Turn) (small large : Watched) → NoneRefused (made (small .state) ts) → NoneRefused (made (large .state) ts)
       → NoLess readOut AnySize (λ less more one other. EndPart less more) cpu c C small large (steps ts)
       → (less : Emptied readOut cpu c (along small ts))
       × (more : Emptied readOut cpu C (along large ts))
       × EndPart (map (encode cpu) (less .events)) (map (encode cpu) (more .events))
   unfolding madeBy afterBy
-  said [] small large meet h H n = (n .0, n .1, n .2)
-  said (t ∷ ts) small large meet h H n =
-      said ts (emission small t) (emission large t) (meet .1) (h .1) (H .1) (n (meet .0) (h .0, tt) (H .0, tt))
+  said [] small large h H n = (n .0, n .1, n .2)
+  said (t ∷ ts) small large h H n =
+      said ts (emission small t) (emission large t) (h .1) (H .1) (n (no-premise c (t .event)) (h .0, tt) (H .0, tt))
 
 module _ (given : ℕ → Turn) (buffer : ℕ → List ℕ) (sized : (capacity : ℕ) → length (buffer capacity) ≡ 8192 + capacity) where
   abbrev ts : List Turn
@@ -111,7 +111,7 @@ module _ (given : ℕ → Turn) (buffer : ℕ → List ℕ) (sized : (capacity :
   pub any-size-fails : DemandBy3 readOut AnySize (λ less more small large. EndPart less more) → ⊥
   unfolding allowed powerAmong emit latest older cut
   any-size-fails meets =
-      let found = said 3 256 512 ts (begun 256) (begun 512) (tt, (tt, (tt, (tt, tt)))) (unrefused 256 refl) (unrefused 512 refl)
+      let found = said 3 256 512 ts (begun 256) (begun 512) (unrefused 256 refl) (unrefused 512 refl)
       (meets 3 256 512 (omega arith) refl refl (omega arith) (buffer 256) (buffer 512) (sized 256) (sized 512) any any (steps ts)) in
       let end : EndPart (map (encode 3) one-two) (map (encode 3) three-four) =
       subst₂ (λ (xs ys : List (Numbered Event)). EndPart (map (encode 3) xs) (map (encode 3) ys)) (hands 256 refl (found .0)) (hands 512 refl (found .1)) (found .2) in

@@ -65,7 +65,8 @@ module _ (cpu capacity : ℕ) where
       → o .events ≡ latest (bytes size) capacity (w .since)
   hands-latest read b w i o =
       longest-latest (bytes size) capacity (w .since) (o .events)
-      (subst₂ (λ (f : Numbered Event → ℕ) (all : List (Numbered Event)). LongestRun f capacity all (o .events)) (encode-lengths cpu) (i .since-is) (o .longest))
+      (subst₂ (λ (f : Numbered Event → ℕ) (all : List (Numbered Event)). LongestRun f capacity all (o .events))
+      (encode-lengths cpu) (i .since-is) (o .longest))
 
   module _ (b : Watched) (w : Ideal Event) (i : Follows b w) (a : Attended size capacity w) where
     abbrev left : List (Numbered Event)
@@ -81,7 +82,8 @@ module _ (cpu capacity : ℕ) where
 
     pub longest : LongestRun (λ (x : Numbered Event). length (encode cpu x)) capacity (b .since) left
     longest =
-        subst₂ (λ (f : Numbered Event → ℕ) (all : List (Numbered Event)). LongestRun f capacity all left) (sym (encode-lengths cpu)) (sym (i .since-is))
+        subst₂ (λ (f : Numbered Event → ℕ) (all : List (Numbered Event)). LongestRun f capacity all left)
+        (sym (encode-lengths cpu)) (sym (i .since-is))
         (longest-iff (bytes size) capacity (w .since) left .1 (a .left))
 
     abbrev pub emptied : Emptied readOut cpu capacity b

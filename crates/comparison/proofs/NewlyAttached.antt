@@ -21,7 +21,7 @@ use Rattle.promise.proofs.Encoding.{encode-length}
 use Rattle.promise.proofs.Consumer.{consumed-holds}
 use Rattle.promise.proofs.Generation.{consumed-generation}
 use Rattle.promise.proofs.OneRead.{recordOf, attaches, read-none, read-one}
-use Rattle.comparison.specs.Emptying.{Empties, NewlyAttached}
+use Rattle.comparison.specs.Emptying.{Consumer, Empties, NewlyAttached}
 
 -- an event has a header
 pub positive : (e : Event) → 0 < size e
@@ -31,12 +31,16 @@ module _ (cpu capacity : ℕ) (s : List ℕ) (w : Writer) (ring : Ring Event) (h
   abbrev generation : ℕ
   generation = pageOf s .generation
 
+  -- whatever the consumer wrote
+  still : (consumer : Consumer) → Holds cpu capacity (consumed s (consumer .page)) w ring
+  still consumer = consumed-holds cpu capacity s (consumer .page) w ring (consumer .whole) h
+
   -- one event at each read, and then EMPTY
   pub empties : (u : List (Numbered Event)) (r : Place) → Following size ring r → unread size ring r ≡ u
       → Empties readOut s (recordOf (pageOf s .generation) r) (map (encode cpu) u) (recordOf (pageOf s .generation) (finished size ring r u))
   empties [] r f e =
       λ consumer out.
-      read-none cpu capacity (consumed s (consumer .page)) w ring (consumed-holds cpu capacity s (consumer .page) w ring (consumer .whole) h) r f generation out e
+      read-none cpu capacity (consumed s (consumer .page)) w ring (still consumer) r f generation out e
       (consumed-generation s (consumer .page) (consumer .whole) (h .sound))
   empties (x ∷ u) r f e =
       let more : r .handed + 1 + length u ≡ r .handed + suc (length u) = omega arith in
@@ -44,7 +48,7 @@ module _ (cpu capacity : ℕ) (s : List ℕ) (w : Writer) (ring : Ring Event) (h
       λ i. record { read-pos = write size ring; last = lastOf sequenceOf (x .sequence) u; handed = more i } in (
         recordOf generation (past size ring r x),
         λ consumer out room.
-            read-one cpu capacity (consumed s (consumer .page)) w ring (consumed-holds cpu capacity s (consumer .page) w ring (consumer .whole) h) r f generation out x u e
+            read-one cpu capacity (consumed s (consumer .page)) w ring (still consumer) r f generation out x u e
             (omega (arith, encode-length cpu x)),
         subst (λ (q : Place). Empties readOut s (recordOf generation (past size ring r x)) (map (encode cpu) u) (recordOf generation q)) end
             (empties u (past size ring r x) (following-past size positive ring r x u f e) (unread-past size positive ring r x u f e)),

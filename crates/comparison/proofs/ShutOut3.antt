@@ -47,7 +47,8 @@ module _ (buffer : List ℕ) (long : length buffer ≡ 8192 + 256) (any : Reader
   abbrev kept : Numbered Event
   kept = record { sequence = 1; event = given }
 
-  module _ (read : Read) (never : (s : List ℕ) (reader : Reader) (out : List ℕ) → count (read s reader out) ≡ 0) (meets : DemandBy3 read Half Promise3) where
+  module _ (read : Read) (never : (s : List ℕ) (reader : Reader) (out : List ℕ) → count (read s reader out) ≡ 0)
+      (meets : DemandBy3 read Half Promise3) where
     one : Emptied read 0 256 stands
     one =
         meets 0 256 256 (omega arith) fit fit (omega arith) buffer buffer long long any any (Emission given consumer consumer ∷ Emptying ∷ [])

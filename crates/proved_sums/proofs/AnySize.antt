@@ -94,9 +94,11 @@ module _ (given : ℕ → Turn) (buffer : ℕ → List ℕ) (sized : (capacity :
     unfolding cut
     unrefused = unrefused2 3 capacity fresh (begun capacity .state) (begins .holds) ts (omega arith) (omega arith)
 
-    hands : (o : Emptied readOut 3 capacity (along (begun capacity) ts)) → o .events ≡ latest (bytes size) capacity (idealAlong capacity start ts .since)
+    hands : (o : Emptied readOut 3 capacity (along (begun capacity) ts))
+        → o .events ≡ latest (bytes size) capacity (idealAlong capacity start ts .since)
     hands o =
-        hands-latest 3 capacity readOut (along (begun capacity) ts) (idealAlong capacity start ts) (follows-along 3 capacity ts (begun capacity) start begins) o
+        hands-latest 3 capacity readOut (along (begun capacity) ts) (idealAlong capacity start ts)
+        (follows-along 3 capacity ts (begun capacity) start begins) o
 
   -- the event given this sequence, with a payload of n bytes
   abbrev event : ℕ → ℕ → Numbered Event
@@ -114,7 +116,8 @@ module _ (given : ℕ → Turn) (buffer : ℕ → List ℕ) (sized : (capacity :
       let found = said 3 256 512 ts (begun 256) (begun 512) (unrefused 256 refl) (unrefused 512 refl)
       (meets 3 256 512 (omega arith) refl refl (omega arith) (buffer 256) (buffer 512) (sized 256) (sized 512) any any (steps ts)) in
       let end : EndPart (map (encode 3) one-two) (map (encode 3) three-four) =
-      subst₂ (λ (xs ys : List (Numbered Event)). EndPart (map (encode 3) xs) (map (encode 3) ys)) (hands 256 refl (found .0)) (hands 512 refl (found .1)) (found .2) in
+      subst₂ (λ (xs ys : List (Numbered Event)). EndPart (map (encode 3) xs) (map (encode 3) ys))
+      (hands 256 refl (found .0)) (hands 512 refl (found .1)) (found .2) in
       let same = same-end [] (end .front) (map (encode 3) three-four) (map (encode 3) one-two) (end .split) refl in
       omega (
         arith,

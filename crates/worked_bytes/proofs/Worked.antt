@@ -7,7 +7,7 @@ use Rattle.table_rules.specs.Table.{first, any}
 use Rattle.word_rules.specs.Number.{number, byteOf, put}
 use Rattle.word_rules.specs.Fields.{putAll}
 use Rattle.capacity_rules.specs.Capacity.{powerAmong, allowed}
-use Rattle.page_rules.specs.Page.{pageOf, tooShort, wrongMark, wrongVersion, filled, spoiled, wrongLayout}
+use Rattle.page_rules.specs.Page.{pageOf, tooShort, differs, wrongMark, wrongVersion, filled, spoiled, wrongLayout}
 use Rattle.page_rules.specs.Page.{wrongLength, wrongPosition, pageRows, opened}
 use Rattle.page_rules.specs.Wake.{wakes, raised, notified}
 use Rattle.page_rules.specs.Fresh.{blank}
@@ -26,11 +26,11 @@ use Rattle.reader_rules.specs.Attach.{attached}
 use Rattle.reader_rules.specs.Read.{ending, eventRows, readAt, readOpened, readOut}
 use Rattle.swap_rules.specs.Swap.{lastGeneration, damaged, countDiffers, swapRows, discarded, latest, newRing}
 use Rattle.swap_rules.specs.Swap.{retired, carriedOver, exchangeOn, exchange}
-use Rattle.worked_bytes.specs.Worked.{pageBytes, laid, header, WorkedPages, WorkedEmissions, WorkedReads, WorkedSwaps, Worked}
+use Rattle.worked_bytes.specs.Worked.{pageBytes, laid, headerBytes, WorkedPages, WorkedEmissions, WorkedReads, WorkedSwaps, Worked}
 
 pages : WorkedPages
-unfolding opened pageRows pageOf tooShort wrongMark wrongVersion wrongLayout filled spoiled wrongLength wrongPosition
-    first any number allowed powerAmong wrongSize blank putAll put byteOf pageBytes laid header
+unfolding opened pageRows pageOf tooShort differs wrongMark wrongVersion wrongLayout filled spoiled wrongLength wrongPosition
+    first any number allowed powerAmong wrongSize blank putAll put byteOf pageBytes laid headerBytes
 pages =
     record {
       creates = λ buffer long.

@@ -1,0 +1,69 @@
+-- Each example computes, from the definitions down to the bytes. To unfold a theorem is to unfold all that it unfolds.
+use Prim.Native.Nat.{ℕ, _-_}
+use mathlib.Core.Path.{_≡_, refl, ap, _∙_}
+use mathlib.Core.Bool.{false, not}
+use lib.ListN.{length}
+use Rattle.table_rules.specs.Table.{first, any}
+use Rattle.word_rules.specs.Number.{number, byteOf, put}
+use Rattle.word_rules.specs.Fields.{putAll}
+use Rattle.capacity_rules.specs.Capacity.{powerAmong, allowed}
+use Rattle.page_rules.specs.Page.{pageOf, tooShort, differs, wrongMark, wrongVersion, filled, spoiled, wrongLayout}
+use Rattle.page_rules.specs.Page.{wrongLength, wrongPosition, pageRows, opened}
+use Rattle.page_rules.specs.Wake.{wakes, raised, notified}
+use Rattle.page_rules.specs.Fresh.{blank}
+use Rattle.region_rules.specs.Region.{bytesAt, storeAt}
+use Rattle.event_rules.specs.Event.{faults, wellFormed, headerOf, eventBytes}
+use Rattle.event_rules.specs.Run.{joined, passable, runUpTo, soundRun}
+use Rattle.event_rules.specs.Walk.{walkUpTo, walkFrom, overflow}
+use Rattle.look_rules.specs.Live.{rest, live}
+use Rattle.writer_rules.specs.Writer.{wrongWriter}
+use Rattle.create_rules.specs.Create.{wrongSize}
+use Rattle.create_rules.proofs.Laws.{size-passed}
+use Rattle.emit_rules.specs.Emit.{writerRows, tooLarge, tooFar, disagrees, eventOf, stored, acceptance, placed, emittedOn, emission}
+use Rattle.inspect_rules.specs.Inspect.{walked, surveyed, judged, inspected}
+use Rattle.reader_rules.specs.Reader.{miscounted, ahead, wrongReader}
+use Rattle.reader_rules.specs.Attach.{attached}
+use Rattle.reader_rules.specs.Read.{ending, eventRows, readAt, readOpened, readOut}
+use Rattle.swap_rules.specs.Swap.{lastGeneration, damaged, countDiffers, swapRows, discarded, latest, newRing}
+use Rattle.swap_rules.specs.Swap.{retired, carriedOver, exchangeOn, exchange}
+use Rattle.worked_bytes.specs.Worked.{pageBytes, laid, headerBytes, WorkedPages, WorkedEmissions, WorkedReads, WorkedSwaps, Worked}
+
+pages : WorkedPages
+unfolding opened pageRows pageOf tooShort differs wrongMark wrongVersion wrongLayout filled spoiled wrongLength wrongPosition
+    first any number allowed powerAmong wrongSize blank putAll put byteOf pageBytes laid headerBytes
+pages =
+    record {
+      creates = λ buffer long.
+          let size : length buffer - 8192 ≡ 256 = ap (λ (n : ℕ). n - 8192) long in
+          let passes : wrongSize buffer ≡ false = ap (λ (n : ℕ). not (allowed n)) size in
+          (size-passed 3 buffer passes .0, size-passed 3 buffer passes .1 ∙ ap (λ (n : ℕ). blank 3 n 1) size);
+      opens = refl;
+      in-order = (refl, refl, refl, refl, refl, refl);
+      zeros-asked = refl;
+      next-unasked = refl;
+    }
+
+reads : WorkedReads
+unfolding pages inspected judged surveyed walked soundRun runUpTo passable wellFormed faults live rest bytesAt joined
+    attached readOut readOpened wrongReader miscounted ahead ending readAt eventRows
+reads =
+    record {
+      inspects-none = refl;
+      inspects-one = refl;
+      attaches = λ old. refl;
+      attaches-at-tail = λ old. refl;
+      hands-out = refl;
+      then-empty = refl;
+    }
+
+emissions : WorkedEmissions
+unfolding reads emission emittedOn writerRows wrongWriter tooLarge tooFar placed walkFrom walkUpTo
+    eventOf eventBytes headerOf disagrees acceptance stored storeAt wakes raised notified
+emissions = record { need-wake-0 = refl; need-wake-1 = refl; need-wake-2 = refl; damaged-second = refl }
+
+swaps : WorkedSwaps
+unfolding emissions exchange exchangeOn swapRows lastGeneration damaged countDiffers carriedOver discarded overflow latest newRing retired
+swaps = record { unwatched = refl; watched = refl }
+
+pub worked : Worked
+worked = record { pages = pages; emissions = emissions; reads = reads; swaps = swaps }

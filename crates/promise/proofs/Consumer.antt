@@ -49,6 +49,7 @@ module _ (s t : List ℕ) (same : Elsewhere s t) where
   elsewhere-holds cpu capacity w ring h = record {
     narrow = h .narrow;
     sound = elsewhere-sound (h .sound);
+    generation-fits = omega (arith, part 32 8 (omega arith), h .generation-fits);
     named = part 12 2 (omega arith) ∙ h .named;
     sized = part 16 8 (omega arith) ∙ h .sized;
     tail-is = part 72 8 (omega arith) ∙ h .tail-is;

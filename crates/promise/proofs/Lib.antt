@@ -4,6 +4,7 @@ pub mod Holds
 pub mod Step
 pub mod Given
 pub mod Demand2
+pub mod Swaps
 pub mod Generation
 pub mod Created
 pub mod Unrefused

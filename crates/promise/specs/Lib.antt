@@ -2,3 +2,4 @@ pub mod Bytes
 pub mod Holds
 pub mod Demand2
 pub mod Only2
+pub mod Swaps

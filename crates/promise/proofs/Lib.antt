@@ -12,3 +12,4 @@ pub mod Decided
 pub mod Reading
 pub mod Only2
 pub mod ShutOut2
+pub mod Places

@@ -3,3 +3,4 @@ pub mod Holds
 pub mod Demand2
 pub mod Only2
 pub mod Swaps
+pub mod Places

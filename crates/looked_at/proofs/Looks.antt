@@ -11,7 +11,7 @@ use Rattle.page_rules.proofs.Same as pages
 use Rattle.look_rules.specs.Live.{live}
 use Rattle.look_rules.proofs.Laws as looks
 use Rattle.event_rules.specs.Run.{soundRun}
-use Rattle.inspect_rules.specs.Inspect.{walked, surveyed, inspected}
+use Rattle.inspect_rules.specs.Inspect.{walked, surveyed, damaged, inspectedOn, inspected}
 use Rattle.reader_rules.specs.Attach.{attached}
 use Rattle.reader_rules.specs.Read.{readAt, readOpened, readOut}
 use Rattle.reader_rules.specs.declared.Reader.{Reader}
@@ -43,7 +43,7 @@ module _ {s t : List ℕ} (g : Agree s t) where
   surveyed-same p = rw (walked-same p)
 
   pub inspected-same : inspected t ≡ inspected s
-  unfolding inspected
+  unfolding inspected inspectedOn damaged
   inspected-same = rw (rows-same, page-same, surveyed-same (pageOf s))
 
   pub attached-same : (reader : Reader) → attached t reader ≡ attached s reader
@@ -55,5 +55,5 @@ module _ {s t : List ℕ} (g : Agree s t) where
   read-same reader out = rw (rows-same, page-same, looks.rest-same s t data-same (pageOf s))
 
   pub followed-same : (reader : Reader) → followed t reader ≡ followed s reader
-  unfolding followed followedOn followRows onward
+  unfolding followed followedOn followRows onward damaged
   followed-same reader = rw (rows-same, page-same, surveyed-same (pageOf s), walked-same (pageOf s))

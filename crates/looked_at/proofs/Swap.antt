@@ -10,7 +10,8 @@ use Rattle.page_rules.specs.Page.{pageOf, pageRows}
 use Rattle.page_rules.specs.declared.Page.{Page}
 use Rattle.writer_rules.specs.declared.Writer.{Writer}
 use Rattle.create_rules.specs.Create.{wrongSize}
-use Rattle.swap_rules.specs.Swap.{AfterSwap, refusedSwap, refuse, damaged, countDiffers, swapRows, retired, carriedOver, exchangeOn, exchange}
+use Rattle.inspect_rules.specs.Inspect.{damaged}
+use Rattle.swap_rules.specs.Swap.{AfterSwap, refusedSwap, refuse, countDiffers, swapRows, retired, carriedOver, exchangeOn, exchange}
 use Rattle.looked_at.specs.LookedAt.{Agree, AgreeStill, MadeAlike}
 use Rattle.looked_at.proofs.Writes.{unwritten, and-then, agree-still, put-still, flag-same, notified-still}
 use Rattle.looked_at.proofs.Looks.{page-same, rows-same, walked-same, surveyed-same}

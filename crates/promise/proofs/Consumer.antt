@@ -31,6 +31,7 @@ module _ (s t : List ℕ) (same : Elsewhere s t) where
   elsewhere-holds cpu capacity w ring h = record {
     narrow = h .narrow;
     sound = rw elsewhere-page (sound-same s t (same .long) (λ i l. same .below i (omega arith)) (pageOf s) (h .sound));
+    generation-fits = rw elsewhere-page (h .generation-fits);
     named = rw elsewhere-page (h .named);
     sized = rw elsewhere-page (h .sized);
     tail-is = rw elsewhere-page (h .tail-is);

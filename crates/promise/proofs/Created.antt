@@ -45,6 +45,7 @@ module _ (cpu capacity : ℕ) (narrow : cpu < 2 ^ 16) (fit : allowed capacity �
   blank-holds = record {
     narrow = narrow;
     sound = subst (Sound clean) says blank-opens;
+    generation-fits = omega (arith, ap (λ (p : Page). p .generation) says);
     named = sym (ap (λ (p : Page). p .«cpu_id») says);
     sized = sym (ap (λ (p : Page). p .capacity) says);
     tail-is = sym (ap (λ (p : Page). p .«tail_pos») says);

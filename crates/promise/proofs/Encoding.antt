@@ -1,21 +1,21 @@
 -- Kept events as bytes: as long as they should be, whole, and passed by the walk as the ring without bytes passes them.
-use Prim.Native.Nat.{ℕ, suc, _+_, _-_, _^_, _≤_, _<_}
+use Prim.Native.Nat.{ℕ, _+_, _-_, _^_, _≤_, _<_}
 use native.Mathlib.Omega.{arith}
 use mathlib.Core.Path.{_≡_, refl, sym, ap, ap₂, _∙_, subst}
 use mathlib.Core.List.{List, [], _∷_, _++_, map}
-use lib.ListN.{length, take, drop, length-map}
-use lib.Seq.{take-append-seam, drop-at}
+use lib.ListN.{length, drop, length-map}
+use lib.Seq.{drop-at}
 use Rattle.event_rules.specs.Event.{sequence}
 use Rattle.event_rules.specs.Run.{joined, Each, Whole}
-use Rattle.event_rules.specs.Walk.{walkFrom, overflow}
+use Rattle.event_rules.specs.Walk.{walkFrom}
 use Rattle.event_rules.specs.declared.Walk.the-variants.{Room}
 use Rattle.event_rules.proofs.Made.{made-length, made-says}
 use Rattle.event_rules.proofs.Front.{made-one, length-joined, joined-append, joined-more}
-use Rattle.event_rules.proofs.Overflow.{overflow-none, overflow-more, walk-whole}
+use Rattle.event_rules.proofs.Walks.{walk-whole}
 use Rattle.event_rules.proofs.Facts.{Fit, aimed, heading}
 use Rattle.run_rules.specs.Runs.{Rising, lastOf, firstOf, total, latest, older}
 use Rattle.history.specs.Ring.{sequenceOf, Numbered, bytes}
-use Rattle.run_rules.proofs.Runs.{by-le, older-fits, older-over, older-latest}
+use Rattle.run_rules.proofs.Runs.{older-latest, latest-map, older-map}
 use Rattle.run_rules.proofs.Rising.{rising-length}
 use Rattle.promise.specs.Bytes.{Event, size, encode}
 
@@ -85,20 +85,16 @@ module _ (cpu : ℕ) where
 
   -- ---- the walk
 
-  -- as many events go from the bytes as from the list
-  pub overflow-older : (capacity room : ℕ) → room ≤ capacity → (xs : List (Numbered Event))
-      → overflow capacity room (map (encode cpu) xs) ≡ length (older (bytes size) (capacity - room) xs)
-  overflow-older capacity room within [] =
-      overflow-none capacity room [] (omega (arith, joined-length [])) ∙ sym (ap length (older-fits (bytes size) (capacity - room) [] (omega arith)))
-  overflow-older capacity room within (x ∷ xs) =
-      by-le (total (bytes size) (x ∷ xs)) (capacity - room)
-      (λ h.
-      overflow-none capacity room (map (encode cpu) (x ∷ xs)) (omega (arith, joined-length (x ∷ xs)))
-      ∙ sym (ap length (older-fits (bytes size) (capacity - room) (x ∷ xs) h)))
-      (λ h.
-      overflow-more capacity room (encode cpu x) (map (encode cpu) xs) (omega (arith, joined-length (x ∷ xs)))
-      ∙ ap suc (overflow-older capacity room within xs)
-      ∙ sym (ap length (older-over (bytes size) (capacity - room) x xs h)))
+  -- the events that go from the bytes are those that go from the list, and so are those that stay
+  pub encode-older : (room : ℕ) (xs : List (Numbered Event)) → older length room (map (encode cpu) xs) ≡ map (encode cpu) (older (bytes size) room xs)
+  encode-older room xs =
+      older-map (encode cpu) length room xs
+      ∙ ap (λ (f : Numbered Event → ℕ). map (encode cpu) (older f room xs)) encode-lengths
+
+  pub encode-latest : (room : ℕ) (xs : List (Numbered Event)) → latest length room (map (encode cpu) xs) ≡ map (encode cpu) (latest (bytes size) room xs)
+  encode-latest room xs =
+      latest-map (encode cpu) length room xs
+      ∙ ap (λ (f : Numbered Event → ℕ). map (encode cpu) (latest f room xs)) encode-lengths
 
   module _ (capacity room : ℕ) (within : room ≤ capacity) (xs : List (Numbered Event)) where
     abbrev gone : List (Numbered Event)
@@ -107,26 +103,19 @@ module _ (cpu : ℕ) where
     abbrev rest : List (Numbered Event)
     rest = latest (bytes size) (capacity - room) xs
 
-    cut : map (encode cpu) xs ≡ map (encode cpu) gone ++ map (encode cpu) rest
-    cut = ap (map (encode cpu)) (older-latest (bytes size) (capacity - room) xs) ∙ map-append (encode cpu) gone rest
-
-    count : overflow capacity room (map (encode cpu) xs) ≡ length (map (encode cpu) gone)
-    count = overflow-older capacity room within xs ∙ sym (length-map gone (encode cpu))
-
-    take-older : take (overflow capacity room (map (encode cpu) xs)) (map (encode cpu) xs) ≡ map (encode cpu) gone
-    take-older = ap₂ (λ (n : ℕ) (l : List (List ℕ)). take n l) count cut ∙ take-append-seam (map (encode cpu) gone) (map (encode cpu) rest)
-
     -- what is left when these have gone
     pub drop-older : drop (total (bytes size) gone) (joined (map (encode cpu) xs)) ≡ joined (map (encode cpu) rest)
     drop-older =
-        ap (λ (l : List (List ℕ)). drop (total (bytes size) gone) (joined l)) cut
+        ap (λ (l : List (Numbered Event)). drop (total (bytes size) gone) (joined (map (encode cpu) l))) (older-latest (bytes size) (capacity - room) xs)
+        ∙ ap (λ (l : List (List ℕ)). drop (total (bytes size) gone) (joined l)) (map-append (encode cpu) gone rest)
         ∙ ap (drop (total (bytes size) gone)) (joined-append (map (encode cpu) gone) (map (encode cpu) rest))
         ∙ drop-at (joined (map (encode cpu) gone)) (joined (map (encode cpu) rest)) (total (bytes size) gone) (joined-length gone)
 
     pub walk-older : Each cpu (map (encode cpu) xs) → (tail : ℕ)
         → walkFrom (aimed cpu capacity room) (joined (map (encode cpu) xs)) tail 0 ≡ Room (tail + total (bytes size) gone) (length gone)
     walk-older each tail =
-        let there : tail + length (joined (take (overflow capacity room (map (encode cpu) xs)) (map (encode cpu) xs))) ≡ tail + total (bytes size) gone =
-        ap (λ (l : List (List ℕ)). tail + length (joined l)) take-older ∙ ap (λ (n : ℕ). tail + n) (joined-length gone) in
-        let passed : 0 + overflow capacity room (map (encode cpu) xs) ≡ length gone = omega (arith, overflow-older capacity room within xs) in
-        walk-whole capacity room cpu within (map (encode cpu) xs) each tail 0 ∙ ap₂ Room there passed
+        let there : tail + length (joined (map (encode cpu) gone)) ≡ tail + total (bytes size) gone = ap (λ (n : ℕ). tail + n) (joined-length gone) in
+        let passed : 0 + length (map (encode cpu) gone) ≡ length gone = omega (arith, length-map gone (encode cpu)) in
+        walk-whole cpu capacity room within (map (encode cpu) xs) each tail 0
+        ∙ ap (λ (l : List (List ℕ)). Room (tail + length (joined l)) (0 + length l)) (encode-older (capacity - room) xs)
+        ∙ ap₂ Room there passed

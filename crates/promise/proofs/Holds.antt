@@ -16,10 +16,10 @@ use Rattle.event_rules.specs.Run.{Whole}
 use Rattle.writer_rules.specs.Writer.{wrongWriter}
 use Rattle.writer_rules.specs.declared.Writer.{Writer}
 use Rattle.writer_rules.proofs.Laws.{not-wrong}
-use Rattle.inspect_rules.specs.Inspect.{summary, inspected}
+use Rattle.inspect_rules.specs.Inspect.{walked, surveyed, summary, inspected}
 use Rattle.inspect_rules.specs.declared.Survey.{Survey}
 use Rattle.inspect_rules.specs.declared.Inspected.the-variants as answers
-use Rattle.inspect_rules.proofs.Surveys.{survey-all}
+use Rattle.inspect_rules.proofs.Surveys.{walked-all, survey-all}
 use Rattle.inspect_rules.proofs.Answers.{inspected-whole}
 use Rattle.history.specs.Ring.{sequenceOf, Ring}
 use Rattle.promise.specs.Bytes.{Event, encode}
@@ -46,16 +46,27 @@ module _ (cpu capacity : ℕ) (s : List ℕ) (w : Writer) (ring : Ring Event) (h
       encode-whole cpu (h .narrow) 0 (ring .kept) (omega (arith, h .holding .fits, holds-range)) (h .holding .rising)
       (omega (arith, h .holding .known, h .holding .spendable))
 
-  -- count, first and last sequence of the kept events
-  pub holds-inspected : inspected s ≡ answers.Whole (record { count = length (ring .kept); first = firstOf sequenceOf (ring .kept); last = lastOf sequenceOf 0 (ring .kept) })
-  holds-inspected =
-      let events : List (List ℕ) = map (encode cpu) (ring .kept) in
-      let whole : Whole (pageOf s .«cpu_id») 0 events = subst (λ (n : ℕ). Whole n 0 events) (sym (h .named)) (holds-whole .0) in
-      let all = survey-all s (pageOf s) (h .sound .order) events (h .bytes-are) whole in
+  -- the events that an inspection passes are those kept
+  abbrev events : List (List ℕ)
+  events = map (encode cpu) (ring .kept)
+
+  whole : Whole (pageOf s .«cpu_id») 0 events
+  whole = subst (λ (n : ℕ). Whole n 0 events) (sym (h .named)) (holds-whole .0)
+
+  pub walked-kept : walked s (pageOf s) ≡ map (encode cpu) (ring .kept)
+  walked-kept = walked-all s (pageOf s) (h .sound .order) events (h .bytes-are) whole
+
+  pub holds-surveyed : surveyed s (pageOf s)
+      ≡ record { stop = pageOf s .«write_pos»; count = length (ring .kept); first = firstOf sequenceOf (ring .kept); last = lastOf sequenceOf 0 (ring .kept) }
+  holds-surveyed =
       let first : firstOf sequence events ≡ firstOf sequenceOf (ring .kept) =
       encode-first cpu (h .narrow) (ring .kept) (omega (arith, h .holding .fits, holds-range)) (h .holding .rising)
       (omega (arith, h .holding .known, h .holding .spendable)) in
       let count : length events ≡ length (ring .kept) = length-map (ring .kept) (encode cpu) in
-      inspected-whole s (pageOf s) (h .sound) (ap (λ (v : Survey). v .stop) all)
-      ∙ ap (λ (v : Survey). answers.Whole (summary v)) all
-      ∙ (λ i. answers.Whole (record { count = count i; first = first i; last = holds-whole .1 i }))
+      survey-all s (pageOf s) (h .sound .order) events (h .bytes-are) whole
+      ∙ (λ i. record { stop = pageOf s .«write_pos»; count = count i; first = first i; last = holds-whole .1 i })
+
+  pub holds-inspected : inspected s ≡ answers.Whole (record { count = length (ring .kept); first = firstOf sequenceOf (ring .kept); last = lastOf sequenceOf 0 (ring .kept) })
+  holds-inspected =
+      inspected-whole s (pageOf s) (h .sound) (ap (λ (v : Survey). v .stop) holds-surveyed)
+      ∙ ap (λ (v : Survey). answers.Whole (summary v)) holds-surveyed

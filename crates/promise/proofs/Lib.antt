@@ -4,6 +4,7 @@ pub mod Holds
 pub mod Step
 pub mod Given
 pub mod Demand2
+pub mod Swaps
 pub mod Generation
 pub mod Created
 pub mod Unrefused
@@ -12,3 +13,4 @@ pub mod Reading
 pub mod OneRead
 pub mod Only2
 pub mod ShutOut2
+pub mod Places

@@ -31,7 +31,7 @@ use Rattle.promise.specs.Bytes.{Event, size, encode, labelOf, answerOf}
 use Rattle.promise.specs.Holds.{Holds}
 use Rattle.promise.specs.Demand2.{Acceptable, Given}
 use Rattle.promise.proofs.Encoding.{joined-one, drop-older, walk-older}
-use Rattle.emit_rules.proofs.Stored.{stored-cpu, stored-capacity, stored-write, stored-tail, stored-sound, stored-live}
+use Rattle.emit_rules.proofs.Stored.{stored-cpu, stored-capacity, stored-generation, stored-write, stored-tail, stored-sound, stored-live}
 use Rattle.promise.proofs.Holds.{holds-counted, holds-whole}
 
 -- what an emission leaves, beside what it leaves on the ring without bytes; `waits` says whether the consumer does
@@ -76,6 +76,7 @@ module _ (cpu capacity : ℕ) (s : List ℕ) (w : Writer) (ring : Ring Event) (e
     holds = record {
       narrow = h .narrow;
       sound = h .sound;
+      generation-fits = h .generation-fits;
       named = h .named;
       sized = h .sized;
       tail-is = h .tail-is;
@@ -144,6 +145,7 @@ module _ (cpu capacity : ℕ) (s : List ℕ) (w : Writer) (ring : Ring Event) (e
           holds = record {
             narrow = h .narrow;
             sound = stored-sound s p (h .sound) event there far-enough onward not-past fits;
+            generation-fits = omega (arith, stored-generation s p (h .sound) event there, h .generation-fits);
             named = stored-cpu s p (h .sound) event there ∙ h .named;
             sized = stored-capacity s p (h .sound) event there ∙ h .sized;
             tail-is = stored-tail s p (h .sound) event there far-enough onward not-past fits;

@@ -15,6 +15,8 @@ use Rattle.promise.specs.Bytes.{Event, size, encode}
 pub record Holds (cpu capacity : ℕ) (s : List ℕ) (w : Writer) (ring : Ring Event) : Type 0 where
   pub narrow : cpu < 2 ^ 16
   pub sound : Sound s (pageOf s)
+  -- a number of eight bytes, as `cpu` is one of two
+  pub generation-fits : pageOf s .generation < 2 ^ 64
   pub named : pageOf s .«cpu_id» ≡ cpu
   pub sized : pageOf s .capacity ≡ capacity
   pub tail-is : pageOf s .«tail_pos» ≡ ring .tail

@@ -1,7 +1,6 @@
 pub mod Cut
 pub mod Shown
 pub mod Lived
-pub mod Swapped
 pub mod Stretches
 pub mod AnySize
 pub mod Sums

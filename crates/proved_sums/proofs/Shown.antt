@@ -1,23 +1,19 @@
 -- What bytes and a record that hold a ring show.
 use Prim.Native.Nat.{ℕ, _^_, _<_}
 use native.Mathlib.Omega.{arith}
-use mathlib.Core.Path.{_≡_, refl, sym, ap, ap₂, _∙_, subst}
+use mathlib.Core.Path.{_≡_, refl, sym, ap, ap₂, _∙_}
 use mathlib.Core.List.{List, [], _∷_, map}
 use lib.ListN.{getD, length-map}
-use Rattle.page_rules.specs.Page.{pageOf}
 use Rattle.event_rules.specs.Event.{sequence}
-use Rattle.event_rules.specs.Run.{Whole}
 use Rattle.writer_rules.specs.declared.Writer.{Writer}
-use Rattle.inspect_rules.specs.Inspect.{walked}
 use Rattle.inspect_rules.specs.declared.Inspected.the-variants as answers
-use Rattle.inspect_rules.proofs.Surveys.{walked-all}
 use Rattle.run_rules.specs.Runs.{Rising, lastOf, firstOf, total}
 use Rattle.history.specs.Ring.{sequenceOf, Numbered, Ring, bytes, write}
 use Rattle.run_rules.proofs.Rising.{rising-length}
 use Rattle.promise.specs.Bytes.{Event, size, encode, State}
 use Rattle.promise.specs.Holds.{Holds}
 use Rattle.promise.proofs.Encoding.{encode-sequence}
-use Rattle.promise.proofs.Holds.{holds-range, holds-whole, holds-inspected}
+use Rattle.promise.proofs.Holds.{holds-range, walked-kept, holds-inspected}
 use Rattle.proved_sums.specs.Lives.{summaryOf, Shows}
 
 abbrev pub numbers : List (Numbered Event) → List ℕ
@@ -44,12 +40,6 @@ sequences cpu narrow low (x ∷ xs) small rise known =
     (encode-sequence cpu narrow x (omega arith) (omega (arith, rising-length sequenceOf (x .sequence) xs (rise .1))))
     (sequences cpu narrow (x .sequence) xs (omega arith) (rise .1) known)
 
-module _ (cpu capacity : ℕ) (s : State) (ring : Ring Event) (h : Holds cpu capacity (s .ring) (s .writer) ring) where
-  pub walked-kept : walked (s .ring) (pageOf (s .ring)) ≡ map (encode cpu) (ring .kept)
-  walked-kept =
-      walked-all (s .ring) (pageOf (s .ring)) (h .sound .order) (map (encode cpu) (ring .kept)) (h .bytes-are)
-      (subst (λ (n : ℕ). Whole n 0 (map (encode cpu) (ring .kept))) (sym (h .named)) (holds-whole cpu capacity (s .ring) (s .writer) ring h .0))
-
 -- so a line of the table is a fact on the ring without bytes
 module _ (capacity : ℕ) (s : State) (ring : Ring Event) (h : Holds 3 capacity (s .ring) (s .writer) ring) where
   pub shows : {tail far : ℕ} {kept : List ℕ} {writer : Writer} → ring .tail ≡ tail → write size ring ≡ far → numbers (ring .kept) ≡ kept
@@ -63,7 +53,7 @@ module _ (capacity : ℕ) (s : State) (ring : Ring Event) (h : Holds 3 capacity 
     inspection = holds-inspected 3 capacity (s .ring) (s .writer) ring h
         ∙ (λ i. answers.Whole (record { count = sym (length-map (ring .kept) (λ (x : Numbered Event). x .sequence)) i; first = oldest-number (ring .kept) i; last = newest-number 0 (ring .kept) i }))
         ∙ ap (λ (l : List ℕ). answers.Whole (summaryOf l)) are;
-    kept-are = ap (map sequence) (walked-kept 3 capacity s ring h)
+    kept-are = ap (map sequence) (walked-kept 3 capacity (s .ring) (s .writer) ring h)
         ∙ sequences 3 (h .narrow) 0 (ring .kept) (omega (arith, h .holding .fits, holds-range 3 capacity (s .ring) (s .writer) ring h)) (h .holding .rising)
         (omega (arith, h .holding .known, h .holding .spendable))
         ∙ are;

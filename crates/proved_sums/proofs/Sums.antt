@@ -18,19 +18,20 @@ use Rattle.reader_rules.specs.declared.Reading.the-variants as reading
 use Rattle.writer_rules.specs.declared.Writer.{Writer}
 use Rattle.run_rules.specs.Runs.{latest, older}
 use Rattle.history.specs.Ring.{Numbered, Ring, fresh, write}
-use Rattle.history.proofs.Ideal.{emit, swap}
+use Rattle.history.proofs.Ideal.{emit, swap as idealSwap}
 use Rattle.history.proofs.Ideal.{calls, after}
 use Rattle.promise.specs.Bytes.{Event, size, Turn}
 use Rattle.promise.specs.Holds.{Holds}
 use Rattle.promise.specs.Demand2.{zeros}
+use Rattle.promise.specs.Swaps.{swap, swapped}
+use Rattle.promise.proofs.Swaps.{swapped-holds, new-generation, old-generation}
 use Rattle.promise.proofs.Reading.{event-at, reads-event, reads-empty}
 use Rattle.promise.proofs.OneRead.{attaches as attach-held}
 use Rattle.promise.proofs.Encoding.{encode-length}
-use Rattle.proved_sums.specs.Lives.{cut, paid, lived, swapped, retired, Shows}
+use Rattle.proved_sums.specs.Lives.{cut, paid, lived, Shows}
 use Rattle.proved_sums.specs.Sums.{one, two, three, four, five, ten, standing, answering, Reads, bytesOf, AllSums}
 use Rattle.proved_sums.proofs.Shown.{numbers, recordOf, shows}
 use Rattle.proved_sums.proofs.Lived.{reached, begins, first-generation, lived-holds, lived-shows, lived-answers, lived-generation}
-use Rattle.proved_sums.proofs.Swapped.{swapped-holds, new-generation, old-generation}
 use Rattle.proved_sums.proofs.Stretches.{stretches}
 use Rattle.proved_sums.proofs.AnySize.{any-size-ends, any-size-fails}
 
@@ -92,21 +93,21 @@ module _ (given : ℕ → Turn) (buffer : ℕ → List ℕ) (sized : (capacity :
     generation : pageOf (lived given buffer before lengths .ring) .generation ≡ 1
     generation = lived-generation given buffer sized before old lengths
 
-    swap-shows : {tail far : ℕ} {kept : List ℕ} {writer : Writer} → swap size capacity ring .tail ≡ tail → write size (swap size capacity ring) ≡ far
-        → numbers (swap size capacity ring .kept) ≡ kept → recordOf (swap size capacity ring) ≡ writer
-        → Shows (swapped buffer capacity (lived given buffer before lengths)) capacity tail far kept writer
+    swap-shows : {tail far : ℕ} {kept : List ℕ} {writer : Writer} → idealSwap size capacity ring .tail ≡ tail → write size (idealSwap size capacity ring) ≡ far
+        → numbers (idealSwap size capacity ring .kept) ≡ kept → recordOf (idealSwap size capacity ring) ≡ writer
+        → Shows (swapped (lived given buffer before lengths) (buffer capacity)) capacity tail far kept writer
     swap-shows =
-        shows capacity (swapped buffer capacity (lived given buffer before lengths)) (swap size capacity ring)
-        (swapped-holds 3 before capacity (lived given buffer before lengths) ring (lived-holds given buffer sized before old lengths)
-        (buffer capacity) (sized capacity) fit (omega (arith, generation)))
+        shows capacity (swapped (lived given buffer before lengths) (buffer capacity)) (idealSwap size capacity ring)
+        (swapped-holds 3 before (lived given buffer before lengths) ring (lived-holds given buffer sized before old lengths)
+        (buffer capacity) capacity (sized capacity) fit (omega (arith, generation)))
 
-    second-generation : (pageOf (swapped buffer capacity (lived given buffer before lengths) .ring) .generation ≡ 2)
-        × (pageOf (retired buffer capacity (lived given buffer before lengths)) .generation ≡ 2)
+    second-generation : (pageOf (swap (lived given buffer before lengths) (buffer capacity) .new) .generation ≡ 2)
+        × (pageOf (swap (lived given buffer before lengths) (buffer capacity) .old) .generation ≡ 2)
     second-generation =
         let h = lived-holds given buffer sized before old lengths in
         let s = lived given buffer before lengths in (
-          omega (arith, generation, new-generation 3 before capacity s ring h (buffer capacity) (sized capacity) fit (omega (arith, generation))),
-          omega (arith, generation, old-generation 3 before capacity s ring h (buffer capacity) (sized capacity) fit (omega (arith, generation))),
+          omega (arith, generation, new-generation 3 before s ring h (buffer capacity) capacity (sized capacity) fit (omega (arith, generation))),
+          omega (arith, generation, old-generation 3 before s ring h (buffer capacity) capacity (sized capacity) fit (omega (arith, generation))),
         )
 
 pub sums : AllSums

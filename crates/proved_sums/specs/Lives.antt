@@ -10,7 +10,6 @@ use Rattle.writer_rules.specs.declared.Writer.{Writer}
 use Rattle.inspect_rules.specs.Inspect.{walked, inspected}
 use Rattle.inspect_rules.specs.declared.Summary.{Summary}
 use Rattle.inspect_rules.specs.declared.Inspected.the-variants.{Whole}
-use Rattle.swap_rules.specs.Swap.{AfterSwap, exchange}
 use Rattle.history.specs.Ring.{Answer}
 use Rattle.history.specs.Calls.{Call}
 use Rattle.promise.specs.Bytes.{Event, State, Turn, made, after, callOf}
@@ -50,18 +49,6 @@ module _ (given : ℕ → Turn) where
 
     abbrev pub answers : ℕ → List ℕ → List Answer
     answers capacity lengths = map (λ (k : Call Event). k .answer) (map callOf (made (createdState 3 (buffer capacity)) (turns 1 lengths)))
-
-module _ (buffer : ℕ → List ℕ) where
-  -- a swap to a capacity
-  abbrev pub swap : ℕ → State → AfterSwap
-  swap capacity s = exchange (s .ring) (buffer capacity) (s .writer)
-
-  -- the new ring with the record, and the old ring
-  abbrev pub swapped : ℕ → State → State
-  swapped capacity s = record { ring = swap capacity s .new; writer = swap capacity s .answer .writer }
-
-  abbrev pub retired : ℕ → State → List ℕ
-  retired capacity s = swap capacity s .old
 
 -- ---- what is shown
 

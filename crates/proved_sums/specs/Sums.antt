@@ -16,8 +16,9 @@ use Rattle.reader_rules.specs.declared.Reading.the-variants as reading
 use Rattle.run_rules.specs.Runs.{EndPart}
 use Rattle.history.specs.Ring.{Done, Dropped}
 use Rattle.promise.specs.Bytes.{Event, encode, Turn}
+use Rattle.promise.specs.Swaps.{swap, swapped}
 use Rattle.comparison.specs.Comparison.{DemandBy3}
-use Rattle.proved_sums.specs.Lives.{paid, lived, answers, swapped, retired, Shows}
+use Rattle.proved_sums.specs.Lives.{paid, lived, answers, Shows}
 
 -- ---- "the state goes on from line to line": the payload lengths up to each line
 
@@ -90,13 +91,13 @@ module _ (given : ℕ → Turn) where
     pub line6 : ((old : Reader) → attached (afterCreate 3 (buffer 256)) old ≡ record { answer = attachment.Done; reader = standing 0 0 0 })
         × ((out : List ℕ) → 128 ≤ length out → Reads (lived given buffer 256 five .ring) out (bytesOf 6) (bytesOf 7))
     -- "Swapped to 512: tail 0, write 256, generation 2; the old page also shows 2."
-    pub line7 : Shows (swapped buffer 512 (lived given buffer 256 five)) 512 0 256 (6 ∷ 7 ∷ []) (counted 8 1 5)
-        × (pageOf (swapped buffer 512 (lived given buffer 256 five) .ring) .generation ≡ 2)
-        × (pageOf (retired buffer 512 (lived given buffer 256 five)) .generation ≡ 2)
+    pub line7 : Shows (swapped (lived given buffer 256 five) (buffer 512)) 512 0 256 (6 ∷ 7 ∷ []) (counted 8 1 5)
+        × (pageOf (swap (lived given buffer 256 five) (buffer 512) .new) .generation ≡ 2)
+        × (pageOf (swap (lived given buffer 256 five) (buffer 512) .old) .generation ≡ 2)
     -- "Another ring, 512, sizes 32 and 256, swapped to 256: only the second kept, write 256."
-    pub line8 : Shows (swapped buffer 256 (lived given buffer 512 (0 ∷ 224 ∷ []))) 256 0 256 (2 ∷ []) (counted 2 0 1)
+    pub line8 : Shows (swapped (lived given buffer 512 (0 ∷ 224 ∷ [])) (buffer 256)) 256 0 256 (2 ∷ []) (counted 2 0 1)
     -- "Ring 1024, one event of 512, swapped to 256: nothing kept, tail and write 0."
-    pub line9 : Shows (swapped buffer 256 (lived given buffer 1024 (480 ∷ []))) 256 0 0 [] (counted 1 0 1)
+    pub line9 : Shows (swapped (lived given buffer 1024 (480 ∷ [])) (buffer 256)) 256 0 0 [] (counted 1 0 1)
     -- "Sizes 32, 32, 256, 256 into 256 and into 512: the first keeps 1 and 2, the second 3 and 4. The premise on size in the third demand can't go."
     pub line10 : Shows (lived given buffer 256 ten) 256 0 64 (1 ∷ 2 ∷ []) (counted 4 2 0)
         × Shows (lived given buffer 512 ten) 512 64 576 (3 ∷ 4 ∷ []) (counted 4 0 2)

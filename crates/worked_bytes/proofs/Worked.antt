@@ -3,6 +3,7 @@ use Prim.Native.Nat.{ℕ, _-_}
 use mathlib.Core.Path.{_≡_, refl, ap, _∙_}
 use mathlib.Core.Bool.{false, not}
 use lib.ListN.{length}
+use Rattle.run_rules.specs.Runs.{latest, older}
 use Rattle.table_rules.specs.Table.{first, any}
 use Rattle.word_rules.specs.Number.{number, byteOf, put}
 use Rattle.word_rules.specs.Fields.{putAll}
@@ -14,17 +15,17 @@ use Rattle.page_rules.specs.Fresh.{blank}
 use Rattle.region_rules.specs.Region.{bytesAt, storeAt}
 use Rattle.event_rules.specs.Event.{faults, wellFormed, headerOf, eventBytes}
 use Rattle.event_rules.specs.Run.{joined, passable, runUpTo, soundRun}
-use Rattle.event_rules.specs.Walk.{walkUpTo, walkFrom, overflow}
+use Rattle.event_rules.specs.Walk.{walkUpTo, walkFrom}
 use Rattle.look_rules.specs.Live.{rest, live}
 use Rattle.writer_rules.specs.Writer.{wrongWriter}
 use Rattle.create_rules.specs.Create.{wrongSize}
 use Rattle.create_rules.proofs.Laws.{size-passed}
 use Rattle.emit_rules.specs.Emit.{writerRows, tooLarge, tooFar, disagrees, eventOf, stored, acceptance, placed, emittedOn, emission}
-use Rattle.inspect_rules.specs.Inspect.{walked, surveyed, judged, inspected}
+use Rattle.inspect_rules.specs.Inspect.{walked, surveyed, damaged, inspectedOn, inspected}
 use Rattle.reader_rules.specs.Reader.{miscounted, ahead, wrongReader}
 use Rattle.reader_rules.specs.Attach.{attached}
 use Rattle.reader_rules.specs.Read.{ending, eventRows, readAt, readOpened, readOut}
-use Rattle.swap_rules.specs.Swap.{lastGeneration, damaged, countDiffers, swapRows, discarded, latest, newRing}
+use Rattle.swap_rules.specs.Swap.{lastGeneration, countDiffers, swapRows, newRing}
 use Rattle.swap_rules.specs.Swap.{retired, carriedOver, exchangeOn, exchange}
 use Rattle.worked_bytes.specs.Worked.{pageBytes, laid, headerBytes, WorkedPages, WorkedEmissions, WorkedReads, WorkedSwaps, Worked}
 
@@ -44,7 +45,7 @@ pages =
     }
 
 reads : WorkedReads
-unfolding pages inspected judged surveyed walked soundRun runUpTo passable wellFormed faults live rest bytesAt joined
+unfolding pages inspected inspectedOn damaged surveyed walked soundRun runUpTo passable wellFormed faults live rest bytesAt joined
     attached readOut readOpened wrongReader miscounted ahead ending readAt eventRows
 reads =
     record {
@@ -62,7 +63,7 @@ unfolding reads emission emittedOn writerRows wrongWriter tooLarge tooFar placed
 emissions = record { need-wake-0 = refl; need-wake-1 = refl; need-wake-2 = refl; damaged-second = refl }
 
 swaps : WorkedSwaps
-unfolding emissions exchange exchangeOn swapRows lastGeneration damaged countDiffers carriedOver discarded overflow latest newRing retired
+unfolding emissions exchange exchangeOn swapRows lastGeneration damaged countDiffers carriedOver older latest newRing retired
 swaps = record { unwatched = refl; watched = refl }
 
 pub worked : Worked

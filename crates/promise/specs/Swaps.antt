@@ -1,0 +1,60 @@
+-- What a swap promises, of any ring that holds together with its record. A created ring does, so does one after any calls (`Promise` ends in `holds`)
+-- and one that a swap has made (`begins`): so this is said of every swap in every history of calls and swaps on the newest ring.
+use Prim.Native.Nat.{ℕ, _+_, _-_, _%_, _^_}
+use mathlib.Core.Path.{_≡_}
+use mathlib.Core.Logic.{_≢_}
+use mathlib.Core.Bool.{cond}
+use mathlib.Core.List.{List, [], _∷_}
+use lib.ListN.{length}
+use Rattle.run_rules.specs.Runs.{LongestRun}
+use Rattle.table_rules.specs.Table.{first}
+use Rattle.table_rules.specs.declared.Refusal.{Refusal}
+use Rattle.table_rules.specs.declared.Refusal.the-variants.{Size, Generation}
+use Rattle.page_rules.specs.Page.{pageOf}
+use Rattle.page_rules.specs.Wake.{futexCounter, needWake, wakes}
+use Rattle.create_rules.specs.Create.{wrongSize}
+use Rattle.swap_rules.specs.Swap.{AfterSwap, lastGeneration, exchanging, exchange}
+use Rattle.swap_rules.specs.declared.SwapOutcome.the-variants.{Refused}
+use Rattle.history.specs.Ring.{Numbered, Ring}
+use Rattle.promise.specs.Bytes.{Event, encode, State, Turn, made, after}
+use Rattle.promise.specs.Holds.{Holds}
+use Rattle.promise.specs.Demand2.{Promise}
+
+-- a swap into the buffer t, and the newest ring after it with the record handed back
+abbrev pub swap : State → List ℕ → AfterSwap
+swap s t = exchange (s .ring) t (s .writer)
+
+abbrev pub swapped : State → List ℕ → State
+swapped s t = record { ring = swap s t .new; writer = swap s t .answer .writer }
+
+-- these events of a ring, from position 0 on: "Discarded events add to overwritten"
+abbrev pub keeping : List (Numbered Event) → Ring Event → Ring Event
+keeping kept ring = record {
+  kept = kept;
+  tail = 0;
+  last = ring .last;
+  dropped = ring .dropped;
+  overwritten = ring .overwritten + (length (ring .kept) - length kept);
+}
+
+-- of a swap that isn't refused, from a ring of capacity `before`
+pub record SwapPromise (cpu before : ℕ) (ring : Ring Event) (s : State) (t : List ℕ) : Type 0 where
+  -- "the longest run of latest events that fits is copied in order to position 0 of the new ring"
+  pub kept : List (Numbered Event)
+  pub longest : LongestRun (λ (x : Numbered Event). length (encode cpu x)) (length t - 8192) (ring .kept) kept
+  -- the new ring is a beginning like any other, so the second demand goes on from it
+  pub begins : Holds cpu (length t - 8192) (swap s t .new) (swap s t .answer .writer) (keeping kept ring)
+  pub goes-on : (turns : List Turn) → Promise cpu (length t - 8192) (keeping kept ring) (made (swapped s t) turns) (after (swapped s t) turns)
+  -- "same cpu_id, old generation + 1 .. the old ring's generation goes up by one, and its wake is done"
+  pub newer : pageOf (swap s t .new) .generation ≡ pageOf (s .ring) .generation + 1
+  pub raised : pageOf (swap s t .old) .generation ≡ pageOf (s .ring) .generation + 1
+  pub told : futexCounter (swap s t .old) ≡ cond (wakes (needWake (s .ring))) ((futexCounter (s .ring) + 1) % 2 ^ 32) (futexCounter (s .ring))
+  -- "The old ring is frozen": it holds what it held
+  pub frozen : Holds cpu before (swap s t .old) (s .writer) ring
+
+-- no refusal is left but 16 and 15, and WAKE is answered exactly if the old ring's consumer waits
+abbrev pub Swaps : Type 0
+Swaps =
+    (cpu before : ℕ) (ring : Ring Event) (s : State) → Holds cpu before (s .ring) (s .writer) ring → (t : List ℕ) →
+    (swap s t .answer .outcome ≡ first ((wrongSize t, Size) ∷ (lastGeneration (pageOf (s .ring)), Generation) ∷ []) Refused (exchanging (wakes (needWake (s .ring)))))
+    × (((r : Refusal) → swap s t .answer .outcome ≢ Refused r) → SwapPromise cpu before ring s t)

@@ -19,13 +19,13 @@ use Rattle.history.proofs.IdealServed.{Ideal, idealEmission, idealEmptying}
 use Rattle.run_rules.proofs.Runs.{longest-iff}
 use Rattle.history.proofs.Emptying.{past, finished, unread-past, following-past, following-finished}
 use Rattle.history.proofs.Served.{Attended, done-is}
-use Rattle.promise.specs.Bytes.{Event, size, encode, State, consumed, Turn, emitted, labelOf, Made, callOf}
+use Rattle.promise.specs.Bytes.{Event, size, encode, State, consumed, Turn, emitted, Made, callOf}
 use Rattle.promise.specs.Holds.{Holds}
 use Rattle.promise.proofs.Encoding.{encode-lengths}
 use Rattle.promise.proofs.Consumer.{consumed-holds}
 use Rattle.promise.proofs.Demand2.{turn-step}
 use Rattle.comparison.specs.Emptying.{Watched, emission, Empties, Emptied, emptying}
-use Rattle.promise.proofs.Generation.{emission-generation, consumed-generation}
+use Rattle.promise.proofs.Generation.{consumed-generation, emitted-generation}
 use Rattle.comparison.proofs.Sizes.{Within}
 use Rattle.comparison.proofs.Read.{recordOf, read-none, read-one}
 
@@ -50,15 +50,10 @@ module _ (cpu capacity : ℕ) where
         let a = turn-step cpu capacity (b .state) (w .ring) t (i .holds) in
         λ j. record { event = t .event; answer = a .answer j; sequence = a .holds .last-is j }
 
-    same-generation : pageOf (emitted (b .state) t .ring) .generation ≡ pageOf (b .state .ring) .generation
-    same-generation =
-        emission-generation (consumed (b .state .ring) (t .page)) (b .state .writer) (labelOf (t .event)) (t .event .payload)
-        ∙ consumed-generation (b .state .ring) (t .page) (t .whole) (i .holds .sound)
-
     pub follows-emission : Follows (emission b t) (idealEmission size capacity w (t .event))
     follows-emission = record {
       holds = turn-step cpu capacity (b .state) (w .ring) t (i .holds) .holds;
-      reader-is = i .reader-is ∙ ap (λ (n : ℕ). recordOf n (w .reader)) (sym same-generation);
+      reader-is = i .reader-is ∙ ap (λ (n : ℕ). recordOf n (w .reader)) (sym (emitted-generation cpu capacity (b .state) (w .ring) (i .holds) t));
       since-is = ap₂ (λ (l : List (Numbered Event)) (k : Call Event). l ++ accepted (k ∷ [])) (i .since-is) same-call;
     }
 

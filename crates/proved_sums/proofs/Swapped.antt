@@ -5,19 +5,23 @@ use native.Mathlib.Omega.{arith}
 use mathlib.Core.Path.{_≡_, sym, ap, ap₂, _∙_, subst}
 use mathlib.Core.Bool.{true}
 use mathlib.Core.List.{List, map}
-use lib.ListN.{length, drop, length-map}
+use lib.ListN.{length, getD, drop, length-map}
 use lib.Seq.{drop-append-seam}
 use Rattle.capacity_rules.specs.Capacity.{allowed}
-use Rattle.page_rules.specs.Page.{pageOf}
+use Rattle.page_rules.specs.Page.{pageOf, positions}
+use Rattle.page_rules.specs.Fresh.{blank}
 use Rattle.page_rules.specs.Sound.{Sound}
 use Rattle.page_rules.specs.declared.Page.{Page}
+use Rattle.region_rules.specs.Region.{storeAt}
+use Rattle.region_rules.proofs.Storing.{store-below}
 use Rattle.event_rules.specs.Run.{joined, Whole}
 use Rattle.look_rules.specs.Live.{live}
 use Rattle.inspect_rules.specs.Inspect.{walked}
 use Rattle.inspect_rules.specs.declared.Survey.{Survey}
 use Rattle.inspect_rules.proofs.Surveys.{survey-all}
-use Rattle.swap_rules.specs.Swap.{AfterSwap, discarded, latest, exchange, Carriable}
+use Rattle.swap_rules.specs.Swap.{AfterSwap, discarded, latest, newRing, carriedOver, exchange, Carriable}
 use Rattle.swap_rules.specs.Rings.{Exchanged}
+use Rattle.swap_rules.proofs.Cases.{swaps as carries}
 use Rattle.swap_rules.proofs.Rings.{swapped-sound}
 use Rattle.run_rules.specs.Runs as runs
 use Rattle.history.specs.Ring.{Numbered, Ring, bytes}
@@ -27,6 +31,7 @@ use Rattle.history.proofs.Swap.{swaps}
 use Rattle.promise.specs.Bytes.{Event, size, encode, State}
 use Rattle.promise.specs.Holds.{Holds}
 use Rattle.promise.proofs.Encoding.{map-append, joined-length, overflow-older}
+use Rattle.promise.proofs.Layers.{Bytewise, all-small, blank-small}
 use Rattle.promise.proofs.Holds.{holds-whole}
 use Rattle.proved_sums.proofs.Shown.{walked-kept}
 
@@ -79,6 +84,16 @@ module _ (cpu before capacity : ℕ) (s : State) (ring : Ring Event) (h : Holds 
   kept-is : latest (length t - 8192) (walked (s .ring) p) ≡ map (encode cpu) (runs.latest (bytes size) capacity (ring .kept))
   kept-is = ap₂ (λ (n : ℕ) (l : List (List ℕ)). latest n l) size-is (walked-kept cpu before s ring h) ∙ latest-encoded cpu capacity (ring .kept)
 
+  -- the new ring's pages are a blank ring's, but for the positions
+  new-small : Bytewise (done .new)
+  unfolding carriedOver newRing
+  new-small i low =
+      let kept : List ℕ = joined (latest (length t - 8192) (walked (s .ring) p)) in
+      let empty : List ℕ = blank (p .«cpu_id») (length t - 8192) (p .generation + 1) in
+      subst (λ (r : AfterSwap). getD (r .new) i 0 < 256) (sym (carries (s .ring) t (s .writer) p carriable))
+      (all-small (storeAt empty (length t - 8192) 0 kept) (positions (length kept) 0) i
+      (omega (arith, store-below kept empty (length t - 8192) 0 i (omega arith), blank-small (p .«cpu_id») (length t - 8192) (p .generation + 1) i)))
+
   pub swapped-holds : Holds cpu capacity (exchange (s .ring) t (s .writer) .new) (exchange (s .ring) t (s .writer) .answer .writer) (swap size capacity ring)
   swapped-holds =
       let says = exchanged .sound .says in
@@ -89,6 +104,7 @@ module _ (cpu before capacity : ℕ) (s : State) (ring : Ring Event) (h : Holds 
       record {
         narrow = h .narrow;
         sound = subst (Sound (done .new)) says (exchanged .sound);
+        bytewise = new-small;
         named = sym (ap (λ (q : Page). q .«cpu_id») says) ∙ h .named;
         sized = sym (ap (λ (q : Page). q .capacity) says) ∙ size-is;
         tail-is = sym (ap (λ (q : Page). q .«tail_pos») says);

@@ -41,7 +41,7 @@ exact-one capacity last w (m ∷ ms) (j ∷ js) e a b =
     )
 
 pub decided2 : Decided2
-decided2 cpu capacity beginning idle calls others one other e p q =
+decided2 cpu capacity beginning without calls others one other e p q =
     let same = exact-one capacity (beginning .last) (write size beginning) calls others e (p .exact) (q .exact) in
     let length-of : Numbered Event → ℕ = λ (x : Numbered Event). length (encode cpu x) in
     let all : beginning .kept ++ acceptedOf calls ≡ beginning .kept ++ acceptedOf others =
@@ -61,7 +61,7 @@ decided2 cpu capacity beginning idle calls others one other e p q =
     ap (λ (ks : List (Call Event)). joined (map (encode cpu) (accepted ks))) (same .1) in
     let ring : one .ring ≡ other .ring =
     p .ring
-    ∙ (λ i. layer capacity (write size beginning) idle (events i) (far i) (near i) (futexCounter idle + total raises (same .0 i)))
+    ∙ (λ i. layer capacity (write size beginning) without (events i) (far i) (near i) (futexCounter without + total raises (same .0 i)))
     ∙ sym (q .ring) in (
       same .0,
       λ i. record { ring = ring i; writer = record { last = last i; dropped = dropped i; overwritten = overwritten i } },

@@ -65,10 +65,10 @@ module _ (cpu capacity : ℕ) where
 
   -- the bytes after some calls, of those there would be without them
   abbrev Leaves : State → ℕ → List ℕ → List Made → Type 0
-  Leaves end from idle ms =
+  Leaves end from without ms =
       end .ring
-      ≡ layer capacity from idle (joined (map (encode cpu) (acceptedOf ms))) (pageOf (end .ring) .«write_pos») (pageOf (end .ring) .«tail_pos»)
-      (futexCounter idle + total raises (outcomesOf ms))
+      ≡ layer capacity from without (joined (map (encode cpu) (acceptedOf ms))) (pageOf (end .ring) .«write_pos») (pageOf (end .ring) .«tail_pos»)
+      (futexCounter without + total raises (outcomesOf ms))
 
   -- the same calls, and after them the bytes hold the ring
   pub same-calls : (turns : List Turn) (s : State) (ring : Ring Event) → Holds cpu capacity (s .ring) (s .writer) ring
@@ -117,16 +117,16 @@ module _ (cpu capacity : ℕ) where
 -- ---- the promise
 
 -- of bytes and a record that hold a ring of which it holds
-promised : (cpu capacity : ℕ) (beginning : Ring Event) (idle : List ℕ) (calls : List Made) (end : State) (ring : Ring Event)
+promised : (cpu capacity : ℕ) (beginning : Ring Event) (without : List ℕ) (calls : List Made) (end : State) (ring : Ring Event)
     → Holds cpu capacity (end .ring) (end .writer) ring
     → LongestRun (λ (x : Numbered Event). length (encode cpu x)) capacity (beginning .kept ++ acceptedOf calls) (ring .kept)
     → Exact capacity (beginning .last) (write size beginning) calls
     → ring .last ≡ beginning .last + used (map callOf calls)
     → ring .dropped ≡ beginning .dropped + droppedOf (map callOf calls)
     → write size ring ≡ write size beginning + taken (acceptedOf calls)
-    → Leaves cpu capacity end (write size beginning) idle calls
-    → Promise cpu capacity beginning idle calls end
-promised cpu capacity beginning idle calls end ring h longest exact last dropped written leaves = record {
+    → Leaves cpu capacity end (write size beginning) without calls
+    → Promise cpu capacity beginning without calls end
+promised cpu capacity beginning without calls end ring h longest exact last dropped written leaves = record {
   opens = holds-opened cpu capacity (end .ring) (end .writer) ring h;
   kept = ring .kept;
   bytes = h .bytes-are;
@@ -166,20 +166,20 @@ demand2 cpu capacity beginning s h turns =
 
 pub undisturbed2 : Undisturbed2
 unfolding pageOf
-undisturbed2 cpu capacity beginning idle calls end p page whole =
+undisturbed2 cpu capacity beginning without calls end p page whole =
     let events : List ℕ = joined (map (encode cpu) (acceptedOf calls)) in
     let w : ℕ = pageOf (end .ring) .«write_pos» in
     let t : ℕ = pageOf (end .ring) .«tail_pos» in
-    let n : ℕ = futexCounter idle + total raises (outcomesOf calls) in
+    let n : ℕ = futexCounter without + total raises (outcomesOf calls) in
     let long : 8192 ≤ length (end .ring) = omega (arith, sound-length (end .ring) (pageOf (end .ring)) (p .holds .sound)) in
-    let enough : 8192 ≤ length idle =
-    omega (arith, ap length (p .ring), layer-length capacity (write size beginning) idle events w t n) in
+    let enough : 8192 ≤ length without =
+    omega (arith, ap length (p .ring), layer-length capacity (write size beginning) without events w t n) in
     let same = elsewhere-number (end .ring) (consumed (end .ring) page) (consumed-elsewhere (end .ring) page whole long) in
-    let counter : futexCounter (consumed idle page) ≡ futexCounter idle =
-    elsewhere-number idle (consumed idle page) (consumed-elsewhere idle page whole enough) 128 4 (omega arith) in
-    promised cpu capacity beginning (consumed idle page) calls (record { ring = consumed (end .ring) page; writer = end .writer }) (shown (p .kept) end)
+    let counter : futexCounter (consumed without page) ≡ futexCounter without =
+    elsewhere-number without (consumed without page) (consumed-elsewhere without page whole enough) 128 4 (omega arith) in
+    promised cpu capacity beginning (consumed without page) calls (record { ring = consumed (end .ring) page; writer = end .writer }) (shown (p .kept) end)
     (consumed-holds cpu capacity (end .ring) page (end .writer) (shown (p .kept) end) whole (p .holds))
     (p .longest) (p .exact) (p .last) (p .dropped) (sym (p .holds .write-is) ∙ p .written)
-    (ap (λ (r : List ℕ). consumed r page) (p .ring) ∙ layer-consumed capacity (write size beginning) idle events w t n page enough whole
-    ∙ (λ i. layer capacity (write size beginning) (consumed idle page) events (sym (same 64 8 (omega arith)) i) (sym (same 72 8 (omega arith)) i)
+    (ap (λ (r : List ℕ). consumed r page) (p .ring) ∙ layer-consumed capacity (write size beginning) without events w t n page enough whole
+    ∙ (λ i. layer capacity (write size beginning) (consumed without page) events (sym (same 64 8 (omega arith)) i) (sym (same 72 8 (omega arith)) i)
     (sym counter i + total raises (outcomesOf calls))))

@@ -83,8 +83,8 @@ shown kept s = record {
   overwritten = s .writer .overwritten;
 }
 
--- of the calls made from a beginning, and of the bytes and the record after them; `idle` is the ring as it would be without the calls
-pub record Promise (cpu capacity : ℕ) (beginning : Ring Event) (idle : List ℕ) (calls : List Made) (end : State) : Type 0 where
+-- of the calls made from a beginning, and of the bytes and the record after them; `without` is the ring as it would be without the calls
+pub record Promise (cpu capacity : ℕ) (beginning : Ring Event) (without : List ℕ) (calls : List Made) (end : State) : Type 0 where
   -- refusals 1 to 6 don't meet the ring
   pub opens : opened (end .ring) ≡ opens.Page (pageOf (end .ring))
   pub kept : List (Numbered Event)
@@ -107,9 +107,9 @@ pub record Promise (cpu capacity : ℕ) (beginning : Ring Event) (idle : List �
   pub written : pageOf (end .ring) .«write_pos» ≡ write size beginning + taken (acceptedOf calls)
   -- every byte of the ring is as it would be without the calls, but for three things: in the data the accepted events stand one behind the other from
   -- the first's position on, the later over the older; the two positions; and futex_counter, up by one for each WAKE, from 2^32 - 1 to 0
-  pub ring : end .ring ≡ putAll (storeAt idle capacity (write size beginning) (joined (map (encode cpu) (acceptedOf calls))))
+  pub ring : end .ring ≡ putAll (storeAt without capacity (write size beginning) (joined (map (encode cpu) (acceptedOf calls))))
       (positions (pageOf (end .ring) .«write_pos») (pageOf (end .ring) .«tail_pos»)
-      ++ (record { offset = 128; size = 4; content = (futexCounter idle + total raises (outcomesOf calls)) % 2 ^ 32 } ∷ []))
+      ++ (record { offset = 128; size = 4; content = (futexCounter without + total raises (outcomesOf calls)) % 2 ^ 32 } ∷ []))
   -- so the promise can be given again from here
   pub holds : Holds cpu capacity (end .ring) (end .writer) (shown kept end)
 
@@ -141,9 +141,9 @@ Fresh2 = FreshBy2 operation
 -- what the consumer writes after the last call changes its own page and nothing else
 abbrev pub Undisturbed2 : Type 0
 Undisturbed2 =
-    (cpu capacity : ℕ) (beginning : Ring Event) (idle : List ℕ) (calls : List Made) (end : State) → Promise cpu capacity beginning idle calls end →
+    (cpu capacity : ℕ) (beginning : Ring Event) (without : List ℕ) (calls : List Made) (end : State) → Promise cpu capacity beginning without calls end →
     (page : List ℕ) → length page ≡ 4096 →
-    Promise cpu capacity beginning (consumed idle page) calls (record { ring = consumed (end .ring) page; writer = end .writer })
+    Promise cpu capacity beginning (consumed without page) calls (record { ring = consumed (end .ring) page; writer = end .writer })
 
 -- neither 8 nor 9 comes early: while numbers and positions suffice for all events of a history, no call is refused
 abbrev pub Unrefused2 : Type 0
@@ -159,7 +159,7 @@ Alike calls one others other = (outcomesOf calls ≡ outcomesOf others) × (one 
 -- the promise leaves no choice: whatever meets it twice, with the same consumer and the same events, is alike
 abbrev pub Decided2 : Type 0
 Decided2 =
-    (cpu capacity : ℕ) (beginning : Ring Event) (idle : List ℕ) (calls others : List Made) (one other : State) →
+    (cpu capacity : ℕ) (beginning : Ring Event) (without : List ℕ) (calls others : List Made) (one other : State) →
     map (λ (m : Made). m .turn) calls ≡ map (λ (m : Made). m .turn) others →
-    Promise cpu capacity beginning idle calls one → Promise cpu capacity beginning idle others other →
+    Promise cpu capacity beginning without calls one → Promise cpu capacity beginning without others other →
     Alike calls one others other

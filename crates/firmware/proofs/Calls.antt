@@ -20,10 +20,10 @@ use Rattle.promise.specs.Bytes.{Event, size, labelOf, State, consumed, Turn, em
 use Rattle.promise.specs.Holds.{Holds}
 use Rattle.promise.specs.Demand2.{Given}
 use Rattle.promise.proofs.Given.{given-one}
-use Rattle.firmware.specs.Firmware.{means, recalled}
+use Rattle.firmware.specs.Firmware.{means, asSeen, recalled}
 
 -- a number means the outcome that it is given for
-pub means-back : (capacity last write size : ℕ) (waits : Bool) (o : Outcome) → Given capacity last write size waits o → means (emittedNumber o) ≡ o
+means-back : (capacity last write size : ℕ) (waits : Bool) (o : Outcome) → Given capacity last write size waits o → means (emittedNumber o) ≡ o
 means-back capacity last write size waits Done g = refl
 means-back capacity last write size waits Wake g = refl
 means-back capacity last write size waits Dropped g = refl
@@ -43,6 +43,15 @@ holds-read cpu capacity s w ring h =
 -- what C holds where the core holds this
 abbrev pub held : ℕ → State → Called
 held n s = record { answer = n; ring = s .ring; kept = bytesOf (s .writer) }
+
+-- what C then sees of an emission is what it left
+pub seen-back : (cpu capacity last write size : ℕ) (waits : Bool) (a : AfterEmit) (ring : Ring Event)
+    → Given capacity last write size waits (a .answer .outcome)
+    → Holds cpu capacity (a .ring) (a .answer .writer) ring → asSeen (held (emittedNumber (a .answer .outcome)) (left a)) ≡ a
+seen-back cpu capacity last write size waits a ring g h =
+    let outcome = means-back capacity last write size waits (a .answer .outcome) g in
+    let writer = holds-read cpu capacity (a .ring) (a .answer .writer) ring h in
+    λ i. record { answer = record { outcome = outcome i; writer = writer i }; ring = a .ring }
 
 -- a refusal leaves the record, any other outcome writes the one handed back
 kept-is : (s : List ℕ) (w : Writer) (label : Label) (payload : List ℕ) (o : Outcome) → emission s w label payload .answer .outcome ≡ o

@@ -6,7 +6,6 @@ use lib.ListN.{replicate}
 use Rattle.word_rules.specs.Number.{byteOf, put}
 use Rattle.word_rules.specs.Fields.{putAll}
 use Rattle.create_rules.specs.Create.{created}
-use Rattle.emit_rules.specs.declared.Outcome.{Outcome}
 use Rattle.console_rules.specs.Console.{createdNumber, emittedNumber, recordOf, bytesOf, Called}
 use Rattle.history.specs.Ring.{Ring, fresh, write}
 use Rattle.history.proofs.Ideal.{emit}
@@ -15,8 +14,8 @@ use Rattle.promise.specs.Holds.{Holds}
 use Rattle.promise.specs.Demand2.{waiting, shown, zeros, createdState, Promise}
 use Rattle.promise.proofs.Demand2.{turn-step}
 use Rattle.promise.proofs.Created.{created-done, created-holds, fresh2}
-use Rattle.firmware.specs.Firmware.{means, asSeen, setUp, seenCalls, lastCall, Firmware2}
-use Rattle.firmware.proofs.Calls.{means-back, holds-read, held, recalled-is}
+use Rattle.firmware.specs.Firmware.{asSeen, setUp, seenCalls, lastCall, Firmware2}
+use Rattle.firmware.proofs.Calls.{holds-read, held, seen-back, recalled-is}
 
 module _ (cpu capacity : ℕ) where
   abbrev next : Ring Event → Turn → Ring Event
@@ -29,13 +28,12 @@ module _ (cpu capacity : ℕ) where
   same-history (t ∷ ts) s ring n h =
       let a = turn-step cpu capacity s ring t h in
       let e = recalled-is cpu capacity s ring h t n in
-      let now : State = left (emitted s t) in
-      let o : Outcome = emitted s t .answer .outcome in
-      let outcome : means (emittedNumber o) ≡ o = means-back capacity (ring .last) (write size ring) (size (t .event)) (waiting t) o (a .given) in
-      let writer : recordOf (bytesOf (now .writer)) ≡ now .writer = holds-read cpu capacity (now .ring) (now .writer) (next ring t) (a .holds) in
-      let rest = same-history ts now (next ring t) (emittedNumber o) (a .holds) in (
+      let number : ℕ = emittedNumber (emitted s t .answer .outcome) in
+      let seen : asSeen (held number (left (emitted s t))) ≡ emitted s t =
+      seen-back cpu capacity (ring .last) (write size ring) (size (t .event)) (waiting t) (emitted s t) (next ring t) (a .given) (a .holds) in
+      let rest = same-history ts (left (emitted s t)) (next ring t) number (a .holds) in (
         ap (λ (c : Called). record { turn = t; answer = asSeen c .answer } ∷ seenCalls c ts) e
-            ∙ (λ i. record { turn = t; answer = record { outcome = outcome i; writer = writer i } } ∷ rest .0 i),
+            ∙ (λ i. record { turn = t; answer = seen i .answer } ∷ rest .0 i),
         (rest .1 .0, ap (λ (c : Called). lastCall c ts) e ∙ rest .1 .1),
       )
 

@@ -7,17 +7,19 @@ use lib.ListN.{length}
 use Rattle.word_rules.specs.Number.{number}
 use Rattle.page_rules.specs.Page.{pageOf}
 use Rattle.page_rules.specs.Sound.{Sound}
+use Rattle.page_rules.specs.declared.Page.{Page}
 use Rattle.page_rules.proofs.Sound.{sound-length}
 use Rattle.history.specs.Ring.{Ring}
 use Rattle.promise.specs.Bytes.{Event, State, Turn, consumed, emitted, after}
 use Rattle.promise.specs.Holds.{Holds}
-use Rattle.promise.proofs.Consumer.{elsewhere-number, consumed-elsewhere}
+use Rattle.promise.proofs.Consumer.{elsewhere-page, consumed-elsewhere}
 use Rattle.promise.proofs.Layers.{layer-number, uncalled-number}
 use Rattle.promise.proofs.Demand2.{turn-step, same-calls}
 
 pub consumed-generation : (s page : List ℕ) → length page ≡ 4096 → Sound s (pageOf s) → pageOf (consumed s page) .generation ≡ pageOf s .generation
 consumed-generation s page whole h =
-    elsewhere-number s (consumed s page) (consumed-elsewhere s page whole (omega (arith, sound-length s (pageOf s) h))) 32 8 (omega arith)
+    ap (λ (p : Page). p .generation)
+    (elsewhere-page s (consumed s page) (consumed-elsewhere s page whole (omega (arith, sound-length s (pageOf s) h))))
 
 module _ (cpu capacity : ℕ) (s : State) (ring : Ring Event) (h : Holds cpu capacity (s .ring) (s .writer) ring) where
   pub emitted-generation : (t : Turn) → pageOf (emitted s t .ring) .generation ≡ pageOf (s .ring) .generation

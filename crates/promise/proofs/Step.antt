@@ -183,10 +183,11 @@ module _ (cpu capacity : ℕ) (s : List ℕ) (w : Writer) (ring : Ring Event) (e
     told-on = ap (λ (n : ℕ). cond (wakes n) (raised moved) moved) (stored-wake s p event there) ∙ counts-on waits
 
     bytes-added : event ≡ added cpu e (acceptance s p w event there (length gone))
-    unfolding acceptance eventOf encode joined
+    unfolding acceptance joined
     bytes-added =
         let x : Numbered Event = record { sequence = w .last + 1; event = e } in
-        ap (λ (n : ℕ). eventBytes n (w .last + 1) (e .timestamp) (e .type) (e .class) (e .payload)) (h .named)
+        event-is
+        ∙ ap (λ (n : ℕ). encode cpu (record { sequence = n + 1; event = e })) (sym (h .last-is))
         ∙ sym (append-nil (encode cpu x))
         ∙ ap (λ (a : Answer). joined (map (encode cpu) (accepts a x))) (sym (told-answer waits))
 

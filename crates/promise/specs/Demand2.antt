@@ -141,8 +141,8 @@ Fresh2 = FreshBy2 operation
 -- what the consumer writes after the last call changes its own page and nothing else
 abbrev pub Undisturbed2 : Type 0
 Undisturbed2 =
-    (cpu capacity : ℕ) (beginning : Ring Event) (without : List ℕ) (calls : List Made) (end : State) → Promise cpu capacity beginning without calls end →
-    (page : List ℕ) → length page ≡ 4096 →
+    (cpu capacity : ℕ) (beginning : Ring Event) (without : List ℕ) (calls : List Made) (end : State) →
+    Promise cpu capacity beginning without calls end → (page : List ℕ) → length page ≡ 4096 →
     Promise cpu capacity beginning (consumed without page) calls (record { ring = consumed (end .ring) page; writer = end .writer })
 
 -- neither 8 nor 9 comes early: while numbers and positions suffice for all events of a history, no call is refused

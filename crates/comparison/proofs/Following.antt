@@ -54,7 +54,7 @@ module _ (cpu capacity : ℕ) where
       record {
         holds = same .1;
         reader-is = i .reader-is
-            ∙ ap (λ (n : ℕ). recordOf n (w .reader)) (sym (generation-stays cpu capacity (t ∷ []) (b .state) (w .ring) (i .holds)));
+            ∙ ap (λ (n : ℕ). recordOf n (w .reader)) (sym (generation-stays cpu capacity (b .state) (w .ring) (i .holds) (t ∷ [])));
         since-is = ap₂ (λ (l : List (Numbered Event)) (ks : List (Call Event)). l ++ accepted ks) (i .since-is) (same .0);
       }
 

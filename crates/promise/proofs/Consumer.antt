@@ -6,7 +6,7 @@ use mathlib.Core.List.{List, _++_}
 use lib.ListN.{length, take, drop, getD, length-append, length-drop, List·getD-append}
 use lib.Seq.{length-take-le, getD-take, getD-drop, getD-append-add}
 use Rattle.word_rules.specs.Number.{number}
-use Rattle.word_rules.proofs.Reading.{number-one}
+use Rattle.word_rules.proofs.Reading.{number-same, number-one}
 use Rattle.page_rules.specs.Page.{pageOf}
 use Rattle.page_rules.proofs.Sound.{sound-length}
 use Rattle.page_rules.proofs.Same.{page-same, sound-same}
@@ -26,12 +26,15 @@ module _ (s t : List ℕ) (same : Elsewhere s t) where
   pub elsewhere-page : pageOf t ≡ pageOf s
   elsewhere-page = page-same s t (same .long) (λ i l. same .below i (omega arith))
 
+  pub elsewhere-number : (at n : ℕ) → at + n ≤ 4096 → number t at n ≡ number s at n
+  elsewhere-number at n low = number-same t s at at n (λ i l. same .below (at + i) (omega arith))
+
   -- whatever the ring holds, it holds still
   elsewhere-holds : (cpu capacity : ℕ) (w : Writer) (ring : Ring Event) → Holds cpu capacity s w ring → Holds cpu capacity t w ring
   elsewhere-holds cpu capacity w ring h = record {
     narrow = h .narrow;
     sound = rw elsewhere-page (sound-same s t (same .long) (λ i l. same .below i (omega arith)) (pageOf s) (h .sound));
-    generation-fits = rw elsewhere-page (h .generation-fits);
+    bytewise = λ i low. omega (arith, same .below i low, h .bytewise i low);
     named = rw elsewhere-page (h .named);
     sized = rw elsewhere-page (h .sized);
     tail-is = rw elsewhere-page (h .tail-is);
@@ -64,15 +67,17 @@ module _ (s page : List ℕ) (whole : length page ≡ 4096) (long : 8192 ≤ len
         ∙ ap (λ (k : ℕ). getD s k 0) back;
   }
 
+  pub consumed-page : (i : ℕ) → 4096 ≤ i → i < 8192 → getD (consumed s page) i 0 ≡ getD page (i - 4096) 0
+  unfolding consumed
+  consumed-page i low high =
+      let there : i ≡ length (take 4096 s) + (i - 4096) = omega (arith, front) in
+      ap (λ (k : ℕ). getD (take 4096 s ++ (page ++ drop 8192 s)) k 0) there
+      ∙ getD-append-add (take 4096 s) (page ++ drop 8192 s) (i - 4096) 0
+      ∙ List·getD-append page (drop 8192 s) 0 (i - 4096) (omega arith)
+
   -- need_wake is the page's first byte
   pub consumed-wake : number (consumed s page) 4096 1 ≡ getD page 0 0
-  unfolding consumed
-  consumed-wake =
-      let there : 4096 ≡ length (take 4096 s) + 0 = omega (arith, front) in
-      number-one (take 4096 s ++ (page ++ drop 8192 s)) 4096
-      ∙ ap (λ (k : ℕ). getD (take 4096 s ++ (page ++ drop 8192 s)) k 0) there
-      ∙ getD-append-add (take 4096 s) (page ++ drop 8192 s) 0 0
-      ∙ List·getD-append page (drop 8192 s) 0 0 (omega arith)
+  consumed-wake = number-one (consumed s page) 4096 ∙ consumed-page 4096 (omega arith) (omega arith)
 
 pub consumed-holds : (cpu capacity : ℕ) (s page : List ℕ) (w : Writer) (ring : Ring Event) → length page ≡ 4096
     → Holds cpu capacity s w ring → Holds cpu capacity (consumed s page) w ring

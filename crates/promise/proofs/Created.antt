@@ -22,6 +22,7 @@ use Rattle.history.proofs.Emission.{fresh-holds}
 use Rattle.promise.specs.Bytes.{size, encode}
 use Rattle.promise.specs.Holds.{Holds}
 use Rattle.promise.specs.Demand2.{zeros, createdState, Fresh2}
+use Rattle.promise.proofs.Layers.{blank-small}
 use Rattle.promise.proofs.Demand2.{demand2}
 
 module _ (cpu capacity : ℕ) (narrow : cpu < 2 ^ 16) (fit : allowed capacity ≡ true) where
@@ -45,7 +46,7 @@ module _ (cpu capacity : ℕ) (narrow : cpu < 2 ^ 16) (fit : allowed capacity �
   blank-holds = record {
     narrow = narrow;
     sound = subst (Sound clean) says blank-opens;
-    generation-fits = omega (arith, ap (λ (p : Page). p .generation) says);
+    bytewise = λ i low. blank-small cpu capacity 1 i;
     named = sym (ap (λ (p : Page). p .«cpu_id») says);
     sized = sym (ap (λ (p : Page). p .capacity) says);
     tail-is = sym (ap (λ (p : Page). p .«tail_pos») says);
@@ -68,8 +69,11 @@ module _ (cpu capacity : ℕ) (narrow : cpu < 2 ^ 16) (fit : allowed capacity �
     pub created-done : created buffer ≡ creates.Done
     created-done = made-new .0
 
+    pub created-blank : afterCreate cpu buffer ≡ blank cpu capacity 1
+    created-blank = made-new .1
+
     pub created-holds : Holds cpu capacity (afterCreate cpu buffer) zeros fresh
-    created-holds = subst (λ (s : List ℕ). Holds cpu capacity s zeros fresh) (sym (made-new .1)) blank-holds
+    created-holds = subst (λ (s : List ℕ). Holds cpu capacity s zeros fresh) (sym created-blank) blank-holds
 
 pub fresh2 : Fresh2
 fresh2 cpu capacity narrow fit buffer long turns = (

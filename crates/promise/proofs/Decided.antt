@@ -5,24 +5,23 @@ use mathlib.Core.Path.{_≡_, refl, sym, ap, ap₂, _∙_, subst, subst₂}
 use mathlib.Core.List.{List, [], _∷_, _++_, map, tail}
 use lib.ListN.{length, getD}
 use Rattle.page_rules.specs.Page.{pageOf}
+use Rattle.page_rules.specs.Wake.{futexCounter}
 use Rattle.event_rules.specs.Run.{joined}
 use Rattle.emit_rules.specs.declared.Outcome.{Outcome}
-use Rattle.run_rules.specs.Runs.{latest}
+use Rattle.run_rules.specs.Runs.{total, latest}
 use Rattle.history.specs.Ring.{Numbered, write}
 use Rattle.history.specs.Calls.{Call, uses, used, droppedOf, accepted}
 use Rattle.run_rules.proofs.Runs.{longest-latest}
-use Rattle.promise.specs.Bytes.{Event, size, taken, encode, Turn, Made, answerOf, callOf, acceptedOf}
+use Rattle.promise.specs.Bytes.{Event, size, taken, encode, Turn, Made, answerOf, callOf, acceptedOf, raises, outcomesOf}
 use Rattle.promise.specs.Demand2.{Given, waiting, Exact, Decided2}
+use Rattle.promise.proofs.Layers.{layer}
 
 abbrev turnOf : Made → Turn
 turnOf m = m .turn
 
-abbrev outcomeOf : Made → Outcome
-outcomeOf m = m .answer .outcome
-
 -- the same outcomes, and so the same calls
 exact-one : (capacity last w : ℕ) (ms js : List Made) → map turnOf ms ≡ map turnOf js → Exact capacity last w ms → Exact capacity last w js
-    → (map outcomeOf ms ≡ map outcomeOf js) × (map callOf ms ≡ map callOf js)
+    → (outcomesOf ms ≡ outcomesOf js) × (map callOf ms ≡ map callOf js)
 exact-one capacity last w [] [] e a b = (refl, refl)
 exact-one capacity last w [] (j ∷ js) e a b = absurd (omega (arith, ap length e))
 exact-one capacity last w (m ∷ ms) [] e a b = absurd (omega (arith, ap length e))
@@ -42,7 +41,7 @@ exact-one capacity last w (m ∷ ms) (j ∷ js) e a b =
     )
 
 pub decided2 : Decided2
-decided2 cpu capacity beginning calls others one other e p q =
+decided2 cpu capacity beginning without calls others one other e p q =
     let same = exact-one capacity (beginning .last) (write size beginning) calls others e (p .exact) (q .exact) in
     let length-of : Numbered Event → ℕ = λ (x : Numbered Event). length (encode cpu x) in
     let all : beginning .kept ++ acceptedOf calls ≡ beginning .kept ++ acceptedOf others =
@@ -56,10 +55,14 @@ decided2 cpu capacity beginning calls others one other e p q =
     let dropped : one .writer .dropped ≡ other .writer .dropped = omega (arith, p .dropped, q .dropped) in
     let overwritten : one .writer .overwritten ≡ other .writer .overwritten = omega (arith, p .counts, q .counts, ap length kept) in
     let far : pageOf (one .ring) .«write_pos» ≡ pageOf (other .ring) .«write_pos» =
-    p .written ∙ ap (λ (ks : List (Call Event)). write size beginning + taken (accepted ks)) (same .1) ∙ sym (q .written) in (
+    p .written ∙ ap (λ (ks : List (Call Event)). write size beginning + taken (accepted ks)) (same .1) ∙ sym (q .written) in
+    let near : pageOf (one .ring) .«tail_pos» ≡ pageOf (other .ring) .«tail_pos» = omega (arith, p .holds .write-is, q .holds .write-is, ap taken kept) in
+    let events : joined (map (encode cpu) (acceptedOf calls)) ≡ joined (map (encode cpu) (acceptedOf others)) =
+    ap (λ (ks : List (Call Event)). joined (map (encode cpu) (accepted ks))) (same .1) in
+    let ring : one .ring ≡ other .ring =
+    p .ring
+    ∙ (λ i. layer capacity (write size beginning) without (events i) (far i) (near i) (futexCounter without + total raises (same .0 i)))
+    ∙ sym (q .ring) in (
       same .0,
-      λ i. record { last = last i; dropped = dropped i; overwritten = overwritten i },
-      omega (arith, p .holds .write-is, q .holds .write-is, ap taken kept),
-      far,
-      p .bytes ∙ ap (λ (xs : List (Numbered Event)). joined (map (encode cpu) xs)) kept ∙ sym (q .bytes),
+      λ i. record { ring = ring i; writer = record { last = last i; dropped = dropped i; overwritten = overwritten i } },
     )

@@ -37,6 +37,10 @@ module _ (cpu : ℕ) where
   joined-length [] = refl
   joined-length (x ∷ xs) = omega (arith, length-joined (encode cpu x) (map (encode cpu) xs), encode-length x, joined-length xs)
 
+  pub joined-both : (xs ys : List (Numbered Event))
+      → joined (map (encode cpu) (xs ++ ys)) ≡ joined (map (encode cpu) xs) ++ joined (map (encode cpu) ys)
+  joined-both xs ys = ap joined (map-append (encode cpu) xs ys) ∙ joined-append (map (encode cpu) xs) (map (encode cpu) ys)
+
   -- one event more
   pub joined-one : (xs : List (Numbered Event)) (x : Numbered Event) → joined (map (encode cpu) (xs ++ (x ∷ []))) ≡ joined (map (encode cpu) xs) ++ encode cpu x
   joined-one xs x = ap joined (map-append (encode cpu) xs (x ∷ [])) ∙ joined-more (map (encode cpu) xs) (encode cpu x)

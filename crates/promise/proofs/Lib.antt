@@ -1,5 +1,6 @@
 pub mod Encoding
 pub mod Consumer
+pub mod Layers
 pub mod Holds
 pub mod Step
 pub mod Given

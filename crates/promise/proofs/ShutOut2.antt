@@ -1,35 +1,41 @@
 -- Wrong emissions don't meet the second demand. One call tells of those that refuse, drop or miscount. Of those that store too little two histories of
 -- two calls do, alike but for the second event's time: such an emission leaves the same bytes after both.
-use Prim.Native.Nat.{ℕ, _+_, _^_, _<_}
+use Prim.Native.Nat.{ℕ, suc, _+_, _-_, _^_, _≤_, _<_}
 use native.Mathlib.Omega.{arith}
 use mathlib.Core.Path.{_≡_, refl, sym, ap, _∙_}
 use mathlib.Core.Logic.{_≢_, ⊎-elim}
 use mathlib.Core.Bool.{Bool, true, cond}
 use mathlib.Core.List.{List, [], _∷_, _++_, map}
-use lib.ListN.{length, drop, replicate, length-replicate}
-use lib.Seq.{drop-at}
+use lib.ListN.{length, getD, drop, replicate, length-replicate}
+use lib.Seq.{drop-at, getD-set-same}
 use lib.Dec.{eqb}
 use Rattle.table_rules.specs.declared.Refusal.{Refusal}
 use Rattle.capacity_rules.specs.Capacity.{powerAmong, allowed}
+use Rattle.word_rules.specs.Number.{number}
+use Rattle.word_rules.proofs.Reading.{number-one}
+use Rattle.word_rules.proofs.Writing.{round-trip}
 use Rattle.page_rules.specs.Page.{pageOf}
+use Rattle.page_rules.specs.Wake.{futexCounter, wakes}
+use Rattle.page_rules.proofs.Sound.{sound-length}
+use Rattle.page_rules.proofs.Fresh.{blank-zero}
 use Rattle.event_rules.specs.Event.{timestamp}
 use Rattle.event_rules.specs.Run.{joined}
 use Rattle.event_rules.proofs.Made.{made-before}
 use Rattle.event_rules.proofs.Facts.{Fit, heading}
 use Rattle.look_rules.specs.Live.{live}
-use Rattle.writer_rules.specs.declared.Writer.{Writer}
 use Rattle.emit_rules.specs.Emit.{dropped}
-use Rattle.emit_rules.specs.declared.Outcome.the-variants.{Dropped, Refused}
+use Rattle.emit_rules.specs.declared.Outcome.the-variants.{Wake, Dropped, Refused}
 use Rattle.run_rules.specs.Runs.{latest, older}
 use Rattle.history.specs.Ring.{fresh}
 use Rattle.history.proofs.Ideal.{emit}
 use Rattle.history.proofs.Ideal.{after as afterCalls}
-use Rattle.promise.specs.Bytes.{Event, size, encode, State, Turn, Emission, madeBy, afterBy, after, emitted, called}
+use Rattle.promise.specs.Bytes.{Event, size, encode, State, Turn, consumed, uncalled, Emission, madeBy, afterBy, after, emitted, called, raises}
 use Rattle.promise.specs.Holds.{Holds}
 use Rattle.promise.specs.Demand2.{Given, waiting, createdState, Promise, FreshBy2}
-use Rattle.promise.specs.Only2.{refusingEmission, dropping, silent, moving, storingFirst, inventing, ShutOut2}
+use Rattle.promise.specs.Only2.{refusingEmission, dropping, silent, moving, storingFirst, inventing, unraising, scribbling, ShutOut2}
 use Rattle.promise.proofs.Encoding.{encode-length}
-use Rattle.promise.proofs.Created.{created-holds, fresh2}
+use Rattle.promise.proofs.Layers.{layer-length, layer-number, layer-counter, uncalled-number}
+use Rattle.promise.proofs.Created.{created-blank, created-holds, fresh2}
 use Rattle.promise.proofs.Demand2.{same-calls}
 use Rattle.promise.proofs.Only2.{only2}
 
@@ -74,7 +80,8 @@ module _ (buffer : List ℕ) (long : length buffer ≡ 8192 + 256) (page : List 
   unfolding madeBy
   accepted-first r e = not-given r (waiting first) (fresh2 0 256 (omega arith) fit buffer long (first ∷ []) .1 .exact .0 (Refused r) .0 e)
 
-  promised : (make : Emission) → FreshBy2 make → Promise 0 256 fresh (madeBy make begun (first ∷ [])) (afterBy make begun (first ∷ []))
+  promised : (make : Emission) → FreshBy2 make
+      → Promise 0 256 fresh (uncalled (begun .ring) (first ∷ [])) (madeBy make begun (first ∷ [])) (afterBy make begun (first ∷ []))
   promised make meets = meets 0 256 (omega arith) fit buffer long (first ∷ []) .1
 
   refusing-shut : (r : Refusal) → FreshBy2 (refusingEmission r) → ⊥
@@ -89,13 +96,57 @@ module _ (buffer : List ℕ) (long : length buffer ≡ 8192 + 256) (page : List 
   unfolding afterBy
   inventing-shut drops overwrites some meets =
       let same = only2 (inventing drops overwrites) meets 0 256 (omega arith) fit buffer long (first ∷ []) .1 in
-      omega (arith, ap (λ (w : Writer). w .dropped) same, ap (λ (w : Writer). w .overwritten) same)
+      omega (arith, ap (λ (s : State). s .writer .dropped) same, ap (λ (s : State). s .writer .overwritten) same)
 
   -- ---- two calls
 
   holds : (turns : List Turn) → Holds 0 256 (after begun turns .ring) (after begun turns .writer)
       (afterCalls (emit size 256) fresh (map (λ (t : Turn). t .event) turns))
   holds turns = same-calls 0 256 turns begun fresh (created-holds 0 256 (omega arith) fit buffer long) .1
+
+  -- what the operation leaves after one
+  abbrev one : State
+  one = after begun (first ∷ [])
+
+  one-long : 8448 ≤ length (one .ring)
+  one-long = sound-length (one .ring) (pageOf (one .ring)) (holds (first ∷ []) .sound)
+
+  unraising-shut : getD page 0 0 ≡ 1 → FreshBy2 unraising → ⊥
+  unfolding madeBy afterBy uncalled wakes
+  unraising-shut waits meets =
+      let promise = fresh2 0 256 (omega arith) fit buffer long (first ∷ []) .1 in
+      let told : emitted begun first .answer .outcome ≡ Wake =
+      promise .exact .0 Wake .1 (ap wakes waits, (λ (e : _≡_ {A = ℕ} 0 (2 ^ 64 - 1)). omega arith, omega arith, omega arith)) in
+      let now : List ℕ = consumed (begun .ring) page in
+      let wide : 8192 ≤ length now = omega (arith, one-long, ap length (promise .ring) ∙ layer-length _ _ now _ _ _ _) in
+      omega (
+        arith,
+        ap (λ (s : State). futexCounter (s .ring)) (only2 unraising meets 0 256 (omega arith) fit buffer long (first ∷ []) .1),
+        round-trip (one .ring) 128 4 (futexCounter now) (omega (arith, one-long)),
+        ap futexCounter (promise .ring) ∙ layer-counter _ _ now _ _ _ _ wide,
+        ap raises told,
+      )
+
+  -- byte 192 is a created ring's still
+  one-zero : number (one .ring) 192 1 ≡ 0
+  one-zero =
+      let paged = sound-length (begun .ring) (pageOf (begun .ring)) (created-holds 0 256 (omega arith) fit buffer long .sound) in
+      ap (λ (s : List ℕ). number s 192 1) (fresh2 0 256 (omega arith) fit buffer long (first ∷ []) .1 .ring)
+      ∙ layer-number _ _ _ _ _ _ _ 192 1 tt (omega arith)
+      ∙ uncalled-number (first ∷ []) (begun .ring) (omega arith) 192 1 (omega arith)
+      ∙ ap (λ (s : List ℕ). number s 192 1) (created-blank 0 256 (omega arith) fit buffer long)
+      ∙ blank-zero 0 256 1 (omega arith) fit (omega arith) (omega arith) 192 1 tt
+
+  scribbling-shut : FreshBy2 scribbling → ⊥
+  unfolding afterBy
+  scribbling-shut meets =
+      omega (
+        arith,
+        ap (λ (s : State). getD (s .ring) 192 0) (only2 scribbling meets 0 256 (omega arith) fit buffer long (first ∷ []) .1),
+        getD-set-same (one .ring) 192 1 0 (omega (arith, one-long)),
+        number-one (one .ring) 192,
+        one-zero,
+      )
 
   module _ (time : ℕ) (fits : time < 2 ^ 64) where
     abbrev twice : List Turn
@@ -112,7 +163,8 @@ module _ (buffer : List ℕ) (long : length buffer ≡ 8192 + 256) (page : List 
         → timestamp (drop 32 (live (afterBy make begun twice .ring) (pageOf (afterBy make begun twice .ring)))) ≡ time
     unfolding encode
     told make meets =
-        ap (λ (l : List ℕ). timestamp (drop 32 l)) (only2 make meets 0 256 (omega arith) fit buffer long twice .4 ∙ both)
+        ap (λ (s : State). timestamp (drop 32 (live (s .ring) (pageOf (s .ring))))) (only2 make meets 0 256 (omega arith) fit buffer long twice .1)
+        ∙ ap (λ (l : List ℕ). timestamp (drop 32 l)) both
         ∙ ap timestamp (drop-at (encode 0 (record { sequence = 1; event = event 0 early }))
         (encode 0 (record { sequence = 2; event = event time fits }) ++ []) 32 (encode-length 0 (record { sequence = 1; event = event 0 early })))
         ∙ made-before 0 2 time 0 0 [] says [] .timestamp-is
@@ -168,6 +220,8 @@ shut-out2 = record {
   only-moves = moving-shut buffer long page whole;
   stores-first = storing-first-shut buffer long page whole;
   invents = λ drops overwrites some. inventing-shut buffer long page whole drops overwrites (omega arith);
+  never-raises = unraising-shut buffer long (1 ∷ replicate 4095 0) (ap suc (length-replicate {A = ℕ} 4095 0)) refl;
+  scribbles = scribbling-shut buffer long page whole;
 }
   where
     buffer : List ℕ

@@ -1,44 +1,60 @@
 -- One emission on bytes that hold a ring: it answers as the ring without bytes does, and what it leaves holds what that one leaves.
-use Prim.Native.Nat.{ℕ, _+_, _-_, _/_, _^_, _≤_, _<_}
+use Prim.Native.Nat.{ℕ, _+_, _-_, _/_, _%_, _^_, _≤_, _<_}
 use native.Mathlib.Omega.{arith}
 use mathlib.Core.Path.{_≡_, refl, sym, ap, ap₂, _∙_, subst}
 use mathlib.Core.Logic.{inl, inr, _≢_}
-use mathlib.Core.Bool.{Bool, true, false}
-use mathlib.Core.List.{List, _++_}
-use lib.ListN.{length, drop}
+use mathlib.Core.Bool.{Bool, true, false, cond}
+use mathlib.Core.List.{List, [], _++_, map, append-nil}
+use lib.ListN.{length, drop, getD}
 use Rattle.table_rules.specs.declared.Refusal.the-variants.{Spent, Far}
-use Rattle.page_rules.specs.Page.{pageOf}
-use Rattle.page_rules.specs.Wake.{needWake, wakes}
+use Rattle.word_rules.specs.Number.{put}
+use Rattle.word_rules.specs.Fields.{putAll}
+use Rattle.word_rules.proofs.Fields.{beside}
+use Rattle.page_rules.specs.Page.{pageOf, positions}
+use Rattle.page_rules.specs.Wake.{futexCounter, needWake, wakes, raised, notified}
 use Rattle.page_rules.specs.declared.Page.{Page}
+use Rattle.region_rules.specs.Region.{storeAt}
+use Rattle.region_rules.proofs.Storing.{store-below, store-number}
 use Rattle.event_rules.specs.Event.{eventBytes}
+use Rattle.event_rules.specs.Run.{joined}
 use Rattle.event_rules.specs.Walk.{walkFrom}
 use Rattle.event_rules.specs.declared.Walk.the-variants.{Room}
 use Rattle.event_rules.proofs.Facts.{aimed, heading}
 use Rattle.look_rules.specs.Live.{live}
 use Rattle.writer_rules.specs.Writer.{wrongWriter}
 use Rattle.writer_rules.specs.declared.Writer.{Writer}
-use Rattle.emit_rules.specs.Emit.{AfterEmit, refuse, dropped, eventOf, accepting, acceptance, emittedOn, emission}
-use Rattle.emit_rules.proofs.Laws.{event-length}
+use Rattle.emit_rules.specs.Emit.{AfterEmit, refuse, dropped, eventOf, stored, accepting, acceptance, emittedOn, emission}
+use Rattle.emit_rules.proofs.Laws.{event-length, stored-wake}
 use Rattle.emit_rules.proofs.Cases.{on-sound, spent, is-dropped, too-far, is-placed, agreed}
 use Rattle.run_rules.specs.Runs.{total, latest, older}
-use Rattle.history.specs.Ring.{Numbered, Ring, Done, Dropped, Refused, bytes, write}
+use Rattle.history.specs.Ring.{Numbered, Ring, Answer, Done, Dropped, Refused, bytes, write}
 use Rattle.history.proofs.Ideal.{Emitted, dropping, new, storing, emit}
 use Rattle.history.specs.Holding.{Holding}
+use Rattle.history.specs.Calls.{accepts}
 use Rattle.run_rules.proofs.Runs.{total-append, latest-room, older-latest}
 use Rattle.history.proofs.Emission.{emit-cases, passed-counted, storing-write}
 use Rattle.history.proofs.Demand2.{one2}
-use Rattle.promise.specs.Bytes.{Event, size, encode, labelOf, answerOf}
+use Rattle.promise.specs.Bytes.{Event, size, encode, labelOf, answerOf, raises}
 use Rattle.promise.specs.Holds.{Holds}
 use Rattle.promise.specs.Demand2.{Acceptable, Given}
 use Rattle.promise.proofs.Encoding.{joined-one, drop-older, walk-older}
-use Rattle.emit_rules.proofs.Stored.{stored-cpu, stored-capacity, stored-generation, stored-write, stored-tail, stored-sound, stored-live}
+use Rattle.emit_rules.proofs.Stored.{stored-cpu, stored-capacity, stored-write, stored-tail, stored-sound, stored-live}
+use Rattle.promise.proofs.Layers.{Bytewise, layer, layer-none, put-small, all-small, put-own, number-small}
 use Rattle.promise.proofs.Holds.{holds-counted, holds-whole}
 
--- what an emission leaves, beside what it leaves on the ring without bytes; `waits` says whether the consumer does
-pub record Stepped (cpu capacity : ℕ) (waits : Bool) (ring : Ring Event) (e : Event) (a : AfterEmit) (m : Emitted (Ring Event)) : Type 0 where
+-- the bytes that a call adds to the data
+abbrev pub added : ℕ → Event → AfterEmit → List ℕ
+added cpu e a = joined (map (encode cpu) (accepts (answerOf (a .answer .outcome)) (record { sequence = a .answer .writer .last; event = e })))
+
+-- what an emission leaves of the bytes s, beside what it leaves on the ring without bytes; `waits` says whether the consumer does
+pub record Stepped (cpu capacity : ℕ) (s : List ℕ) (waits : Bool) (ring : Ring Event) (e : Event) (a : AfterEmit) (m : Emitted (Ring Event))
+    : Type 0 where
   pub answer : answerOf (a .answer .outcome) ≡ m .answer
   pub given : Given capacity (ring .last) (write size ring) (size e) waits (a .answer .outcome)
   pub holds : Holds cpu capacity (a .ring) (a .answer .writer) (m .next)
+  pub leaves : a .ring
+      ≡ layer capacity (write size ring) s (added cpu e a) (pageOf (a .ring) .«write_pos») (pageOf (a .ring) .«tail_pos»)
+      (futexCounter s + raises (a .answer .outcome))
 
 -- Wake exactly if the consumer waits
 told-answer : (b : Bool) → answerOf (accepting b) ≡ Done
@@ -57,15 +73,19 @@ module _ (cpu capacity : ℕ) (s : List ℕ) (w : Writer) (ring : Ring Event) (e
   waits = wakes (needWake s)
 
   abbrev goes : AfterEmit → Emitted (Ring Event) → Type 0
-  goes a m = Stepped cpu capacity waits ring e a m
+  goes a m = Stepped cpu capacity s waits ring e a m
 
   -- ---- refused, and dropped
 
+  unchanged : s ≡ layer capacity (write size ring) s (joined []) (p .«write_pos») (p .«tail_pos») (futexCounter s + 0)
+  unfolding joined
+  unchanged = layer-none capacity (write size ring) s (h .bytewise)
+
   goes-spent : ring .last ≡ 2 ^ 64 - 1 → goes (refuse s w Spent) (record { answer = Refused 8; next = ring })
-  goes-spent none = record { answer = refl; given = inl (refl, none); holds = h }
+  goes-spent none = record { answer = refl; given = inl (refl, none); holds = h; leaves = unchanged }
 
   goes-far : ring .last ≢ 2 ^ 64 - 1 → size e ≤ capacity / 2 → 2 ^ 62 < write size ring + size e → goes (refuse s w Far) (record { answer = Refused 9; next = ring })
-  goes-far some half far = record { answer = refl; given = inr (refl, some, omega arith, omega arith); holds = h }
+  goes-far some half far = record { answer = refl; given = inr (refl, some, omega arith, omega arith); holds = h; leaves = unchanged }
 
   goes-dropped : ring .last ≢ 2 ^ 64 - 1 → capacity / 2 < size e → Holding size capacity (dropping size ring)
       → goes (dropped s w) (record { answer = Dropped; next = dropping size ring })
@@ -76,7 +96,7 @@ module _ (cpu capacity : ℕ) (s : List ℕ) (w : Writer) (ring : Ring Event) (e
     holds = record {
       narrow = h .narrow;
       sound = h .sound;
-      generation-fits = h .generation-fits;
+      bytewise = h .bytewise;
       named = h .named;
       sized = h .sized;
       tail-is = h .tail-is;
@@ -87,6 +107,7 @@ module _ (cpu capacity : ℕ) (s : List ℕ) (w : Writer) (ring : Ring Event) (e
       overwritten-is = h .overwritten-is;
       holding = next;
     };
+    leaves = unchanged;
   }
 
   -- ---- stored
@@ -134,6 +155,52 @@ module _ (cpu capacity : ℕ) (s : List ℕ) (w : Writer) (ring : Ring Event) (e
     fits : p .«write_pos» + length event ≤ there + p .capacity
     fits = omega (arith, h .write-is, h .sized, parts, long, latest-room (bytes size) (capacity - size e) (ring .kept))
 
+    abbrev moved : List ℕ
+    moved = stored s p event there
+
+    moved-small : Bytewise moved
+    unfolding stored
+    moved-small i low = all-small (storeAt s (p .capacity) (p .«write_pos») event) (positions (p .«write_pos» + length event) there) i
+        (omega (arith, store-below event s (p .capacity) (p .«write_pos») i (omega arith), h .bytewise i low))
+
+    moved-counter : futexCounter moved ≡ futexCounter s
+    unfolding stored
+    moved-counter =
+        beside (storeAt s (p .capacity) (p .«write_pos») event) (positions (p .«write_pos» + length event) there) 128 4 tt
+        ∙ store-number event s (p .capacity) (p .«write_pos») 128 4 (omega arith)
+
+    -- the counter goes up where the consumer waits
+    counts-on : (b : Bool) → cond b (raised moved) moved ≡ put moved 128 4 ((futexCounter s + raises (accepting b)) % 2 ^ 32)
+    unfolding raised
+    counts-on true = ap (λ (n : ℕ). put moved 128 4 ((n + 1) % 2 ^ 32)) moved-counter
+    counts-on false =
+        let same : (futexCounter s + 0) % 2 ^ 32 ≡ futexCounter moved =
+        omega (arith, moved-counter, number-small moved moved-small 128 4 (omega arith)) in
+        sym (ap (put moved 128 4) same ∙ put-own moved moved-small 128 4 (omega arith))
+
+    told-on : notified moved ≡ put moved 128 4 ((futexCounter s + raises (accepting waits)) % 2 ^ 32)
+    unfolding notified
+    told-on = ap (λ (n : ℕ). cond (wakes n) (raised moved) moved) (stored-wake s p event there) ∙ counts-on waits
+
+    bytes-added : event ≡ added cpu e (acceptance s p w event there (length gone))
+    unfolding acceptance joined
+    bytes-added =
+        let x : Numbered Event = record { sequence = w .last + 1; event = e } in
+        event-is
+        ∙ ap (λ (n : ℕ). encode cpu (record { sequence = n + 1; event = e })) (sym (h .last-is))
+        ∙ sym (append-nil (encode cpu x))
+        ∙ ap (λ (a : Answer). joined (map (encode cpu) (accepts a x))) (sym (told-answer waits))
+
+    left-by : notified moved
+        ≡ layer capacity (write size ring) s (added cpu e (acceptance s p w event there (length gone))) (pageOf (notified moved) .«write_pos»)
+        (pageOf (notified moved) .«tail_pos») (futexCounter s + raises (accepting waits))
+    unfolding stored putAll
+    left-by =
+        let far = stored-write s p (h .sound) event there far-enough onward not-past fits in
+        let near = stored-tail s p (h .sound) event there far-enough onward not-past fits in
+        told-on
+        ∙ (λ i. layer (h .sized i) (h .write-is i) s (bytes-added i) (sym far i) (sym near i) (futexCounter s + raises (accepting waits)))
+
     goes-stored : Holding size capacity (storing size capacity ring e)
         → goes (acceptance s p w event there (length gone)) (record { answer = Done; next = storing size capacity ring e })
     unfolding acceptance
@@ -145,7 +212,7 @@ module _ (cpu capacity : ℕ) (s : List ℕ) (w : Writer) (ring : Ring Event) (e
           holds = record {
             narrow = h .narrow;
             sound = stored-sound s p (h .sound) event there far-enough onward not-past fits;
-            generation-fits = omega (arith, stored-generation s p (h .sound) event there, h .generation-fits);
+            bytewise = λ i low. subst (λ (r : List ℕ). getD r i 0 < 256) (sym told-on) (put-small moved 128 4 _ i (moved-small i low));
             named = stored-cpu s p (h .sound) event there ∙ h .named;
             sized = stored-capacity s p (h .sound) event there ∙ h .sized;
             tail-is = stored-tail s p (h .sound) event there far-enough onward not-past fits;
@@ -160,6 +227,7 @@ module _ (cpu capacity : ℕ) (s : List ℕ) (w : Writer) (ring : Ring Event) (e
             overwritten-is = ap (λ (n : ℕ). n + length gone) (h .overwritten-is);
             holding = next;
           };
+          leaves = left-by;
         }
 
   -- ---- the step
@@ -177,7 +245,7 @@ module _ (cpu capacity : ℕ) (s : List ℕ) (w : Writer) (ring : Ring Event) (e
   half-is : p .capacity / 2 ≡ capacity / 2
   half-is = ap (λ (n : ℕ). n / 2) (h .sized)
 
-  pub step : Stepped cpu capacity (wakes (needWake s)) ring e (emission s w (labelOf e) (e .payload)) (emit size capacity ring e)
+  pub step : Stepped cpu capacity s (wakes (needWake s)) ring e (emission s w (labelOf e) (e .payload)) (emit size capacity ring e)
   step =
       emit-cases size (λ (m : Emitted (Ring Event)). Holding size capacity (m .next) → goes sent m) capacity ring e
       (λ none next.

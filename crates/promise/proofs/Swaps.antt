@@ -5,17 +5,22 @@ use mathlib.Core.Path.{_≡_, refl, sym, ap, ap₂, _∙_, subst}
 use mathlib.Core.Logic.{_≢_}
 use mathlib.Core.Bool.{Bool, true, false}
 use mathlib.Core.List.{List, [], _∷_, map}
-use lib.ListN.{length, length-map, length-append}
+use lib.ListN.{length, getD, length-map, length-append}
 use borrow.Author.Tests.{eqb-true, eqb-false}
 use Rattle.table_rules.specs.Table.{first}
 use Rattle.table_rules.specs.declared.Refusal.{Refusal}
 use Rattle.table_rules.specs.declared.Refusal.the-variants.{Size, Generation}
+use Rattle.table_rules.proofs.Laws.{cond-both}
 use Rattle.capacity_rules.specs.Capacity.{allowed}
 use Rattle.capacity_rules.proofs.Laws.{allowed-range}
-use Rattle.page_rules.specs.Page.{pageOf}
+use Rattle.word_rules.specs.Number.{put}
+use Rattle.page_rules.specs.Page.{pageOf, positions}
+use Rattle.page_rules.specs.Fresh.{blank}
 use Rattle.page_rules.specs.Sound.{Sound}
-use Rattle.page_rules.specs.Wake.{needWake, wakes}
+use Rattle.page_rules.specs.Wake.{needWake, wakes, raised, notified}
 use Rattle.page_rules.specs.declared.Page.{Page}
+use Rattle.region_rules.specs.Region.{storeAt}
+use Rattle.region_rules.proofs.Storing.{store-below}
 use Rattle.event_rules.specs.Run.{joined}
 use Rattle.look_rules.specs.Live.{live}
 use Rattle.writer_rules.specs.Writer.{wrongWriter}
@@ -24,7 +29,7 @@ use Rattle.create_rules.specs.Create.{wrongSize}
 use Rattle.create_rules.proofs.Laws.{right-size}
 use Rattle.inspect_rules.specs.Inspect.{walked}
 use Rattle.inspect_rules.specs.declared.Survey.{Survey}
-use Rattle.swap_rules.specs.Swap.{AfterSwap, lastGeneration, exchanging, carriedOver, exchangeOn}
+use Rattle.swap_rules.specs.Swap.{AfterSwap, lastGeneration, exchanging, newRing, retired, carriedOver, exchangeOn}
 use Rattle.swap_rules.specs.declared.SwapOutcome.{SwapOutcome}
 use Rattle.swap_rules.specs.declared.SwapOutcome.the-variants.{Refused}
 use Rattle.swap_rules.proofs.Facts.{Carriable}
@@ -40,11 +45,17 @@ use Rattle.promise.specs.Holds.{Holds}
 use Rattle.promise.specs.Swaps.{swap, swapped, keeping, SwapPromise, Swaps}
 use Rattle.promise.proofs.Encoding.{encode-lengths, encode-latest, joined-length}
 use Rattle.promise.proofs.Holds.{holds-counted, walked-kept, holds-surveyed}
+use Rattle.promise.proofs.Layers.{Bytewise, put-small, all-small, blank-small, number-small}
 use Rattle.promise.proofs.Demand2.{demand2}
 
 module _ (cpu before : ℕ) (s : State) (ring : Ring Event) (h : Holds cpu before (s .ring) (s .writer) ring) (t : List ℕ) where
   abbrev p : Page
   p = pageOf (s .ring)
+
+  -- a number of eight bytes
+  holds-generation : p .generation < 2 ^ 64
+  unfolding pageOf
+  holds-generation = omega (arith, number-small (s .ring) (h .bytewise) 32 8 (omega arith))
 
   -- ---- none of the refusals
 
@@ -71,6 +82,28 @@ module _ (cpu before : ℕ) (s : State) (ring : Ring Event) (h : Holds cpu befor
         ap₂ (λ (n : ℕ) (l : List (List ℕ)). latest length n l) size-is (walked-kept cpu before (s .ring) (s .writer) ring h)
         ∙ encode-latest cpu capacity (ring .kept)
 
+    done : swap s t ≡ carriedOver (s .ring) p t (s .writer)
+    done = carries (s .ring) t (s .writer) p carriable
+
+    -- the new ring's pages are a blank ring's, but for the positions
+    new-small : Bytewise (swap s t .new)
+    unfolding carriedOver newRing
+    new-small i low =
+        let kept : List ℕ = joined (latest length (length t - 8192) (walked (s .ring) p)) in
+        let empty : List ℕ = blank (p .«cpu_id») (length t - 8192) (p .generation + 1) in
+        subst (λ (r : AfterSwap). getD (r .new) i 0 < 256) (sym done)
+        (all-small (storeAt empty (length t - 8192) 0 kept) (positions (length kept) 0) i
+        (omega (arith, store-below kept empty (length t - 8192) 0 i (omega arith), blank-small (p .«cpu_id») (length t - 8192) (p .generation + 1) i)))
+
+    -- the old one's are as they were, but for generation and counter
+    old-small : Bytewise (swap s t .old)
+    unfolding carriedOver retired notified raised
+    old-small i low =
+        let older : List ℕ = put (s .ring) 32 8 (p .generation + 1) in
+        let small : getD older i 0 < 256 = put-small (s .ring) 32 8 (p .generation + 1) i (h .bytewise i low) in
+        subst (λ (r : AfterSwap). getD (r .old) i 0 < 256) (sym done)
+        (cond-both (λ (r q : List ℕ). getD r i 0 < 256) (wakes (needWake older)) {z = older} {w = older} (put-small older 128 4 _ i small) small)
+
     pub swapped-holds : Holds cpu capacity (swap s t .new) (swap s t .answer .writer) (idealSwap size capacity ring)
     swapped-holds =
         let says = exchanged .sound .says in
@@ -81,7 +114,7 @@ module _ (cpu before : ℕ) (s : State) (ring : Ring Event) (h : Holds cpu befor
         record {
           narrow = h .narrow;
           sound = subst (Sound (swap s t .new)) says (exchanged .sound);
-          generation-fits = omega (arith, ap (λ (q : Page). q .generation) says);
+          bytewise = new-small;
           named = sym (ap (λ (q : Page). q .«cpu_id») says) ∙ h .named;
           sized = sym (ap (λ (q : Page). q .capacity) says) ∙ size-is;
           tail-is = sym (ap (λ (q : Page). q .«tail_pos») says);
@@ -99,7 +132,7 @@ module _ (cpu before : ℕ) (s : State) (ring : Ring Event) (h : Holds cpu befor
         record {
           narrow = h .narrow;
           sound = subst (Sound (swap s t .old)) says (exchanged .frozen);
-          generation-fits = omega (arith, ap (λ (q : Page). q .generation) says);
+          bytewise = old-small;
           named = sym (ap (λ (q : Page). q .«cpu_id») says) ∙ h .named;
           sized = sym (ap (λ (q : Page). q .capacity) says) ∙ h .sized;
           tail-is = sym (ap (λ (q : Page). q .«tail_pos») says) ∙ h .tail-is;
@@ -141,10 +174,10 @@ module _ (cpu before : ℕ) (s : State) (ring : Ring Event) (h : Holds cpu befor
 
     later : p .generation < 2 ^ 64 - 1
     unfolding lastGeneration
-    later = omega (arith, eqb-false (p .generation) (2 ^ 64 - 1) left, h .generation-fits)
+    later = omega (arith, eqb-false (p .generation) (2 ^ 64 - 1) left, holds-generation)
 
-    done : swap s t ≡ carriedOver (s .ring) p t (s .writer)
-    done = carries (s .ring) t (s .writer) p (carriable room whole fits later)
+    carried : swap s t ≡ carriedOver (s .ring) p t (s .writer)
+    carried = done room whole fits later
 
     kept-promise : SwapPromise cpu before ring s t
     kept-promise =
@@ -182,7 +215,7 @@ module _ (cpu before : ℕ) (s : State) (ring : Ring Event) (h : Holds cpu befor
       by false true e f =
           ap (λ (a : AfterSwap). a .answer .outcome)
           (opens ∙ generation-refused (s .ring) t (s .writer) p right e (eqb-true (p .generation) (2 ^ 64 - 1) f))
-      by false false e f = ap (λ (a : AfterSwap). a .answer .outcome) (done e f)
+      by false false e f = ap (λ (a : AfterSwap). a .answer .outcome) (carried e f)
 
   promises : ((r : Refusal) → outcome ≢ Refused r) → SwapPromise cpu before ring s t
   unfolding first

@@ -4,11 +4,12 @@
 -- the calls' answers, what is kept off the bytes. So the promise is broken
 --   by an emission that refuses everything, or always answers DROPPED, or tells a consumer that doesn't wait: `exact`;
 --   by one that writes nothing, or stores the first event and only moves positions later: `bytes` with `longest`;
+--   by one that never raises futex_counter, or writes where it has no business: `ring`;
 --   by one that keeps less than it could, or moves the tail to anything but an event's start: `bytes` with `longest`;
 --   by one that gives a number twice or leaves one out: `exact`, `last`;
 --   by one that invents dropped or overwritten: `dropped`, `counts` with `inspection`.
 -- `Only2` (specs/Only2.antt) says it of all others, and `ShutOut2` of these one by one.
-use Prim.Native.Nat.{ℕ, _+_, _-_, _/_, _^_, _≤_, _<_}
+use Prim.Native.Nat.{ℕ, _+_, _-_, _/_, _%_, _^_, _≤_, _<_}
 use mathlib.Core.Path.{_≡_}
 use mathlib.Core.Logic.{_⊎_, _≢_, _↔_}
 use mathlib.Core.Bool.{Bool, true, false}
@@ -16,10 +17,12 @@ use mathlib.Core.List.{List, [], _∷_, _++_, map}
 use lib.ListN.{length, getD}
 use Rattle.table_rules.specs.declared.Refusal.{Refusal}
 use Rattle.table_rules.specs.Refusals.{paperNumber}
+use Rattle.word_rules.specs.Fields.{putAll}
 use Rattle.capacity_rules.specs.Capacity.{allowed}
-use Rattle.page_rules.specs.Page.{pageOf, opened}
-use Rattle.page_rules.specs.Wake.{wakes}
+use Rattle.page_rules.specs.Page.{pageOf, opened, positions}
+use Rattle.page_rules.specs.Wake.{futexCounter, wakes}
 use Rattle.page_rules.specs.declared.Opened.the-variants as opens
+use Rattle.region_rules.specs.Region.{storeAt}
 use Rattle.event_rules.specs.Run.{joined}
 use Rattle.look_rules.specs.Live.{live}
 use Rattle.create_rules.specs.Create.{created, afterCreate}
@@ -32,7 +35,7 @@ use Rattle.writer_rules.specs.declared.Writer.{Writer}
 use Rattle.run_rules.specs.Runs.{lastOf, firstOf, total, LongestRun}
 use Rattle.history.specs.Ring.{sequenceOf, Numbered, Ring, fresh, write}
 use Rattle.history.specs.Calls.{uses, used, droppedOf}
-use Rattle.promise.specs.Bytes.{Event, size, taken, encode, State, consumed, Turn, Emission, Made, madeBy, afterBy, operation, made, after, answerOf, callOf, acceptedOf}
+use Rattle.promise.specs.Bytes.{Event, size, taken, encode, State, consumed, Turn, uncalled, Emission, Made, madeBy, afterBy, operation, made, after, answerOf, callOf, acceptedOf, raises, outcomesOf}
 use Rattle.promise.specs.Holds.{Holds}
 
 -- ---- each call's answer
@@ -80,8 +83,8 @@ shown kept s = record {
   overwritten = s .writer .overwritten;
 }
 
--- of the calls made from a beginning, and of the bytes and the record after them
-pub record Promise (cpu capacity : ℕ) (beginning : Ring Event) (calls : List Made) (end : State) : Type 0 where
+-- of the calls made from a beginning, and of the bytes and the record after them; `without` is the ring as it would be without the calls
+pub record Promise (cpu capacity : ℕ) (beginning : Ring Event) (without : List ℕ) (calls : List Made) (end : State) : Type 0 where
   -- refusals 1 to 6 don't meet the ring
   pub opens : opened (end .ring) ≡ opens.Page (pageOf (end .ring))
   pub kept : List (Numbered Event)
@@ -102,6 +105,11 @@ pub record Promise (cpu capacity : ℕ) (beginning : Ring Event) (calls : List M
   pub dropped : end .writer .dropped ≡ beginning .dropped + droppedOf (map callOf calls)
   -- positions count the bytes of the accepted events
   pub written : pageOf (end .ring) .«write_pos» ≡ write size beginning + taken (acceptedOf calls)
+  -- every byte of the ring is as it would be without the calls, but for three things: in the data the accepted events stand one behind the other from
+  -- the first's position on, the later over the older; the two positions; and futex_counter, up by one for each WAKE, from 2^32 - 1 to 0
+  pub ring : end .ring ≡ putAll (storeAt without capacity (write size beginning) (joined (map (encode cpu) (acceptedOf calls))))
+      (positions (pageOf (end .ring) .«write_pos») (pageOf (end .ring) .«tail_pos»)
+      ++ (record { offset = 128; size = 4; content = (futexCounter without + total raises (outcomesOf calls)) % 2 ^ 32 } ∷ []))
   -- so the promise can be given again from here
   pub holds : Holds cpu capacity (end .ring) (end .writer) (shown kept end)
 
@@ -109,7 +117,7 @@ pub record Promise (cpu capacity : ℕ) (beginning : Ring Event) (calls : List M
 abbrev pub Demand2 : Type 0
 Demand2 =
     (cpu capacity : ℕ) (beginning : Ring Event) (s : State) → Holds cpu capacity (s .ring) (s .writer) beginning → (turns : List Turn) →
-    Promise cpu capacity beginning (made s turns) (after s turns)
+    Promise cpu capacity beginning (uncalled (s .ring) turns) (made s turns) (after s turns)
 
 -- "all 0 with a fresh ring"
 abbrev pub zeros : Writer
@@ -124,17 +132,18 @@ abbrev pub FreshBy2 : Emission → Type 0
 FreshBy2 make =
     (cpu capacity : ℕ) → cpu < 2 ^ 16 → allowed capacity ≡ true → (buffer : List ℕ) → length buffer ≡ 8192 + capacity → (turns : List Turn) →
     (created buffer ≡ creates.Done)
-    × Promise cpu capacity fresh (madeBy make (createdState cpu buffer) turns) (afterBy make (createdState cpu buffer) turns)
+    × Promise cpu capacity fresh (uncalled (afterCreate cpu buffer) turns) (madeBy make (createdState cpu buffer) turns)
+    (afterBy make (createdState cpu buffer) turns)
 
 abbrev pub Fresh2 : Type 0
 Fresh2 = FreshBy2 operation
 
--- what the consumer writes after the last call doesn't break it either
+-- what the consumer writes after the last call changes its own page and nothing else
 abbrev pub Undisturbed2 : Type 0
 Undisturbed2 =
-    (cpu capacity : ℕ) (beginning : Ring Event) (calls : List Made) (end : State) → Promise cpu capacity beginning calls end →
-    (page : List ℕ) → length page ≡ 4096 →
-    Promise cpu capacity beginning calls (record { ring = consumed (end .ring) page; writer = end .writer })
+    (cpu capacity : ℕ) (beginning : Ring Event) (without : List ℕ) (calls : List Made) (end : State) →
+    Promise cpu capacity beginning without calls end → (page : List ℕ) → length page ≡ 4096 →
+    Promise cpu capacity beginning (consumed without page) calls (record { ring = consumed (end .ring) page; writer = end .writer })
 
 -- neither 8 nor 9 comes early: while numbers and positions suffice for all events of a history, no call is refused
 abbrev pub Unrefused2 : Type 0
@@ -143,19 +152,14 @@ Unrefused2 =
     beginning .last + length turns < 2 ^ 64 → write size beginning + total (λ (t : Turn). size (t .event)) turns ≤ 2 ^ 62 →
     NoneRefused (made s turns)
 
--- the same answers, the same record and positions, and the same bytes from tail to write position
+-- the same answers, the same record, and the same ring, byte for byte
 abbrev pub Alike : List Made → State → List Made → State → Type 0
-Alike calls one others other =
-    (map (λ (m : Made). m .answer .outcome) calls ≡ map (λ (m : Made). m .answer .outcome) others)
-    × (one .writer ≡ other .writer)
-    × (pageOf (one .ring) .«tail_pos» ≡ pageOf (other .ring) .«tail_pos»)
-    × (pageOf (one .ring) .«write_pos» ≡ pageOf (other .ring) .«write_pos»)
-    × (live (one .ring) (pageOf (one .ring)) ≡ live (other .ring) (pageOf (other .ring)))
+Alike calls one others other = (outcomesOf calls ≡ outcomesOf others) × (one ≡ other)
 
 -- the promise leaves no choice: whatever meets it twice, with the same consumer and the same events, is alike
 abbrev pub Decided2 : Type 0
 Decided2 =
-    (cpu capacity : ℕ) (beginning : Ring Event) (calls others : List Made) (one other : State) →
+    (cpu capacity : ℕ) (beginning : Ring Event) (without : List ℕ) (calls others : List Made) (one other : State) →
     map (λ (m : Made). m .turn) calls ≡ map (λ (m : Made). m .turn) others →
-    Promise cpu capacity beginning calls one → Promise cpu capacity beginning others other →
+    Promise cpu capacity beginning without calls one → Promise cpu capacity beginning without others other →
     Alike calls one others other

@@ -3,6 +3,7 @@
 use Prim.Native.Nat.{ℕ, _^_, _<_}
 use mathlib.Core.Path.{_≡_}
 use mathlib.Core.List.{List, map}
+use lib.ListN.{getD}
 use Rattle.page_rules.specs.Page.{pageOf}
 use Rattle.page_rules.specs.Sound.{Sound}
 use Rattle.event_rules.specs.Run.{joined}
@@ -15,8 +16,8 @@ use Rattle.promise.specs.Bytes.{Event, size, encode}
 pub record Holds (cpu capacity : ℕ) (s : List ℕ) (w : Writer) (ring : Ring Event) : Type 0 where
   pub narrow : cpu < 2 ^ 16
   pub sound : Sound s (pageOf s)
-  -- a number of eight bytes, as `cpu` is one of two
-  pub generation-fits : pageOf s .generation < 2 ^ 64
+  -- the first page is of bytes
+  pub bytewise : (i : ℕ) → i < 4096 → getD s i 0 < 256
   pub named : pageOf s .«cpu_id» ≡ cpu
   pub sized : pageOf s .capacity ≡ capacity
   pub tail-is : pageOf s .«tail_pos» ≡ ring .tail

@@ -1,19 +1,21 @@
--- No emission but the operation's own meets the second demand; and some wrong ones, by name, that don't.
+-- No emission but the operation's own meets the second demand: whatever does gives, on every fresh ring and after every history, the same answers,
+-- record and bytes. And some wrong ones, by name, that don't.
 use Prim.Native.Nat.{ℕ, _+_, _^_, _<_}
 use mathlib.Core.Path.{_≡_}
 use mathlib.Core.Bool.{true, cond}
 use mathlib.Core.List.{List}
-use lib.ListN.{length}
+use lib.ListN.{length, set}
 use lib.Dec.{eqb}
 use Rattle.table_rules.specs.declared.Refusal.{Refusal}
+use Rattle.word_rules.specs.Number.{put}
 use Rattle.word_rules.specs.Fields.{putAll}
 use Rattle.capacity_rules.specs.Capacity.{allowed}
 use Rattle.page_rules.specs.Page.{pageOf, positions}
+use Rattle.page_rules.specs.Wake.{futexCounter}
 use Rattle.emit_rules.specs.Emit.{refuse, dropped, emission}
 use Rattle.promise.specs.Bytes.{Turn, Emission, madeBy, afterBy, made, after}
 use Rattle.promise.specs.Demand2.{createdState, FreshBy2, Alike}
 
--- whatever meets the demand is alike with the operation, on every fresh ring and after every history
 abbrev pub Only2 : Type 0
 Only2 =
     (make : Emission) → FreshBy2 make →
@@ -60,6 +62,17 @@ inventing drops overwrites s w label payload = record {
   ring = emission s w label payload .ring;
 }
 
+-- answers as it should, and never raises futex_counter
+abbrev pub unraising : Emission
+unraising s w label payload = record {
+  answer = emission s w label payload .answer;
+  ring = put (emission s w label payload .ring) 128 4 (futexCounter s);
+}
+
+-- does all as it should, and writes a byte of the first page that nobody looks at
+abbrev pub scribbling : Emission
+scribbling s w label payload = record { answer = emission s w label payload .answer; ring = set (emission s w label payload .ring) 192 1 }
+
 pub record ShutOut2 : Type 0 where
   pub refuses : (r : Refusal) → FreshBy2 (refusingEmission r) → ⊥
   pub drops : FreshBy2 dropping → ⊥
@@ -67,3 +80,5 @@ pub record ShutOut2 : Type 0 where
   pub only-moves : FreshBy2 moving → ⊥
   pub stores-first : FreshBy2 storingFirst → ⊥
   pub invents : (drops overwrites : ℕ) → 0 < drops + overwrites → FreshBy2 (inventing drops overwrites) → ⊥
+  pub never-raises : FreshBy2 unraising → ⊥
+  pub scribbles : FreshBy2 scribbling → ⊥

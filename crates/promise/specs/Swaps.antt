@@ -16,7 +16,7 @@ use Rattle.create_rules.specs.Create.{wrongSize}
 use Rattle.swap_rules.specs.Swap.{AfterSwap, lastGeneration, exchanging, exchange}
 use Rattle.swap_rules.specs.declared.SwapOutcome.the-variants.{Refused}
 use Rattle.history.specs.Ring.{Numbered, Ring}
-use Rattle.promise.specs.Bytes.{Event, encode, State, Turn, made, after}
+use Rattle.promise.specs.Bytes.{Event, encode, State, Turn, uncalled, made, after}
 use Rattle.promise.specs.Holds.{Holds}
 use Rattle.promise.specs.Demand2.{Promise}
 
@@ -44,7 +44,8 @@ pub record SwapPromise (cpu before : ℕ) (ring : Ring Event) (s : State) (t : L
   pub longest : LongestRun (λ (x : Numbered Event). length (encode cpu x)) (length t - 8192) (ring .kept) kept
   -- the new ring is a beginning like any other, so the second demand goes on from it
   pub begins : Holds cpu (length t - 8192) (swap s t .new) (swap s t .answer .writer) (keeping kept ring)
-  pub goes-on : (turns : List Turn) → Promise cpu (length t - 8192) (keeping kept ring) (made (swapped s t) turns) (after (swapped s t) turns)
+  pub goes-on : (turns : List Turn)
+      → Promise cpu (length t - 8192) (keeping kept ring) (uncalled (swapped s t .ring) turns) (made (swapped s t) turns) (after (swapped s t) turns)
   -- "same cpu_id, old generation + 1 .. the old ring's generation goes up by one, and its wake is done"
   pub newer : pageOf (swap s t .new) .generation ≡ pageOf (s .ring) .generation + 1
   pub raised : pageOf (swap s t .old) .generation ≡ pageOf (s .ring) .generation + 1

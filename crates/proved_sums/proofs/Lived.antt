@@ -2,16 +2,14 @@
 use Prim.Native.Nat.{ℕ, _+_, _-_}
 use native.Mathlib.Omega.{arith}
 use mathlib.Core.Path.{_≡_, ap, _∙_}
-use mathlib.Core.Bool.{true, not}
+use mathlib.Core.Bool.{true}
 use mathlib.Core.List.{List, map}
 use lib.ListN.{length}
 use Rattle.word_rules.specs.Number.{number}
 use Rattle.capacity_rules.specs.Capacity.{allowed}
 use Rattle.page_rules.specs.Page.{pageOf}
-use Rattle.page_rules.specs.Fresh.{blank}
 use Rattle.page_rules.proofs.Fresh.{blank-generation}
-use Rattle.create_rules.specs.Create.{wrongSize, afterCreate}
-use Rattle.create_rules.proofs.Laws.{size-passed}
+use Rattle.create_rules.specs.Create.{afterCreate}
 use Rattle.writer_rules.specs.declared.Writer.{Writer}
 use Rattle.history.specs.Ring.{Ring, fresh, write}
 use Rattle.history.proofs.Ideal.{given, emit}
@@ -21,7 +19,7 @@ use Rattle.history.proofs.Ideal.{after as afterCalls}
 use Rattle.promise.specs.Bytes.{Event, size, Turn}
 use Rattle.promise.specs.Holds.{Holds}
 use Rattle.promise.specs.Demand2.{zeros, createdState}
-use Rattle.promise.proofs.Created.{created-holds}
+use Rattle.promise.proofs.Created.{created-blank, created-holds}
 use Rattle.promise.proofs.Demand2.{same-calls}
 use Rattle.proved_sums.specs.Lives.{turns, lived, answers, Shows}
 use Rattle.proved_sums.proofs.Shown.{numbers, recordOf, shows}
@@ -40,11 +38,9 @@ module _ (turn : ℕ → Turn) (buffer : ℕ → List ℕ) (sized : (capacity : 
     begins = created-holds 3 capacity (omega arith) fit (buffer capacity) (sized capacity)
 
     pub first-generation : pageOf (afterCreate 3 (buffer capacity)) .generation ≡ 1
-    unfolding wrongSize pageOf
+    unfolding pageOf
     first-generation =
-        let rest : length (buffer capacity) - 8192 ≡ capacity = omega (arith, sized capacity) in
-        ap (λ (s : List ℕ). number s 32 8) (size-passed 3 (buffer capacity) (ap not (ap allowed rest ∙ fit)) .1)
-        ∙ ap (λ (c : ℕ). number (blank 3 c 1) 32 8) rest
+        ap (λ (s : List ℕ). number s 32 8) (created-blank 3 capacity (omega arith) fit (buffer capacity) (sized capacity))
         ∙ blank-generation 3 capacity 1 (omega arith) fit (omega arith) (omega arith)
 
     pub lived-holds : (lengths : List ℕ) → Holds 3 capacity (lived turn buffer capacity lengths .ring) (lived turn buffer capacity lengths .writer) (reached capacity lengths)
@@ -64,4 +60,4 @@ module _ (turn : ℕ → Turn) (buffer : ℕ → List ℕ) (sized : (capacity : 
     pub lived-generation : (lengths : List ℕ) → pageOf (lived turn buffer capacity lengths .ring) .generation ≡ 1
     unfolding pageOf
     lived-generation lengths =
-        generation-stays 3 capacity (turns turn 1 lengths) (createdState 3 (buffer capacity)) fresh begins ∙ first-generation
+        generation-stays 3 capacity (createdState 3 (buffer capacity)) fresh begins (turns turn 1 lengths) ∙ first-generation

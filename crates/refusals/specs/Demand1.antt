@@ -1,5 +1,5 @@
--- Demand 1: "A refusal writes nothing and returns the record as given. Each is given exactly when its condition is met at its turn" (document 01), of any
--- bytes and any numbers. An operation's questions stand in one table in the paper's order, each with its answer.
+-- Demand 1, of any bytes and any numbers: "A refusal writes nothing and returns the record as given. Each is given exactly when its condition is met at
+-- its turn" (document 01). A table holds an operation's questions in the paper's order, each with its answer, and in the last row what is left to answer.
 use Prim.Native.Nat.{ℕ, _+_, _-_, _^_}
 use mathlib.Core.Path.{_≡_}
 use mathlib.Core.Logic.{_↔_}
@@ -37,11 +37,12 @@ use Rattle.swap_rules.specs.Swap.{lastGeneration, damaged, countDiffers, exchan
 use Rattle.swap_rules.specs.declared.SwapOutcome.the-variants as swaps
 use Rattle.console_rules.specs.Console.{createdNumber, inspectedNumber, recordOf, emitCall}
 
--- of a call: what a refusal makes its answer, with the place that 10 bears; its table; its answer; and that all it may change is as it came
-pub record Asked {A : Type 0} (refused : Refusal → A) (place : ℕ) (table : (ℕ → A) → List (Bool × A)) (answer : A) (as-came : Type 0) : Type 0 where
-  -- an answer is given exactly where its row is the first that holds; so every answer is one of the table's
+-- of a call: how it answers a refusal, and at which place 10; its table, which is told the answers of the refusals' numbers; its answer; and that all it
+-- was lent to change is as it came
+pub record Asked {A : Type 0} (refused : Refusal → A) (place : ℕ) (table : (ℕ → A) → List (Bool × A)) (answer : A) (unchanged : Type 0) : Type 0 where
+  -- an answer is given exactly where its row is the first that holds, and so every answer is one of the table's
   pub exact : (a : A) → (answer ≡ a) ↔ ((turn : ℕ) × Stops turn (table (λ n. refused (paperName place n))) a)
-  pub kept : (r : Refusal) → answer ≡ refused r → as-came
+  pub kept : (r : Refusal) → answer ≡ refused r → unchanged
 
 -- 1 to 6, which all but creation ask first
 abbrev pub pageTable : {A : Type 0} → List ℕ → (ℕ → A) → List (Bool × A)
@@ -49,7 +50,7 @@ pageTable s refusal =
     (tooShort s, refusal 1) ∷ (wrongMark s, refusal 2) ∷ (wrongVersion s, refusal 3) ∷ (wrongLayout s, refusal 4)
     ∷ (wrongLength s, refusal 5) ∷ (wrongPosition (pageOf s), refusal 6) ∷ []
 
--- how an emission's walk ended
+-- by the end of an emission's walk
 abbrev pub walkTable : {A : Type 0} → Writer → Walk → (ℕ → A) → List (Bool × A)
 walkTable w walks.NoRoom refusal = (true, refusal 12) ∷ []
 walkTable w (walks.Damaged place) refusal = (true, refusal 10) ∷ []
@@ -71,7 +72,7 @@ emitTable s w size dropped wake done refusal =
 abbrev pub inspectTable : {A : Type 0} → List ℕ → A → (ℕ → A) → List (Bool × A)
 inspectTable s whole refusal = pageTable s refusal ++ ((damaged s (pageOf s), refusal 10) ∷ (true, whole) ∷ [])
 
--- every operation, and the three calls of C
+-- ring, record and output buffer are lent to be changed where the paper has them changed; an inspection changes nothing
 pub record Demand1 : Type 0 where
   pub create : (cpu : ℕ) (s : List ℕ)
       → Asked creates.Refused 0 (λ refusal. (wrongSize s, refusal 16) ∷ (true, creates.Done) ∷ []) (created s) (afterCreate cpu s ≡ s)
@@ -119,6 +120,7 @@ pub record Demand1 : Type 0 where
       ++ ((wrongWriter w, refusal 7) ∷ (wrongSize t, refusal 16) ∷ (lastGeneration p, refusal 15) ∷ (damaged s p, refusal 10)
       ∷ (countDiffers s p w, refusal 11) ∷ (wakes (needWake s), swaps.Wake) ∷ (true, swaps.Done) ∷ []))
       (after .answer .outcome) ((after .old ≡ s) × (after .new ≡ t) × (after .answer .writer ≡ w))
+  -- the calls of C, answered by number
   pub create-call : (cpu : ℕ) (s : List ℕ)
       → Asked paperNumber 0 (λ refusal. (wrongSize s, refusal 16) ∷ (true, 0) ∷ []) (createdNumber (created s)) (afterCreate cpu s ≡ s)
   pub emit-call : (s bytes : List ℕ) (timestamp type class : ℕ) (payload : List ℕ)

@@ -171,11 +171,11 @@ module _ (reader : Reader) (out : List ℕ) where
         keep = λ r. (refl, refl);
       }
 
-  end-fits : (p : Page) (at-end same : Bool) {rows : List (Bool × Reading)} {x : AfterRead} → Fits readings rows x
-      → Fits readings ((at-end && same, reads.Empty) ∷ (at-end, reads.Moved) ∷ rows) (cond at-end (nothing (cond same reads.Empty reads.Moved) p reader out) x)
-  end-fits p true true fits = says readings refl (λ r e. let z : _≡_ {A = ℕ} 0 1 = cc in omega arith)
-  end-fits p true false fits = past readings (says readings refl (λ r e. let z : _≡_ {A = ℕ} 0 1 = cc in omega arith))
-  end-fits p false same fits = past readings (past readings fits)
+  end-fits : (at : ℕ) (at-end same : Bool) {rows : List (Bool × Reading)} {x : AfterRead} → Fits readings rows x
+      → Fits readings ((at-end && same, reads.Empty) ∷ (at-end, reads.Moved) ∷ rows) (cond at-end (nothing (cond same reads.Empty reads.Moved) at reader out) x)
+  end-fits at true true fits = says readings refl (λ r e. let z : _≡_ {A = ℕ} 0 1 = cc in omega arith)
+  end-fits at true false fits = past readings (says readings refl (λ r e. let z : _≡_ {A = ℕ} 0 1 = cc in omega arith))
+  end-fits at false same fits = past readings (past readings fits)
 
 -- ---- every operation
 
@@ -205,9 +205,10 @@ demand1 =
           asked o
           (asks o (pageRows s)
           (asks o ((wrongReader p reader, refusal.Reader) ∷ [])
-          (end-fits reader out p (eqb at (p .«write_pos»)) (eqb (p .generation) (reader .generation))
+          (end-fits reader out (reader .«read_pos») (eqb (reader .«read_pos») (p .«write_pos»)) (eqb (p .generation) (reader .generation))
+          (end-fits reader out at (eqb at (p .«write_pos»)) (eqb (p .generation) (reader .generation))
           (asks o (eventRows (p .«cpu_id») reader out at (rest s p at))
-          (says o refl (λ r e. let z : _≡_ {A = ℕ} 0 1 = cc in omega arith))))));
+          (says o refl (λ r e. let z : _≡_ {A = ℕ} 0 1 = cc in omega arith)))))));
       follow =
           λ s reader.
           asked (attachments reader)

@@ -90,17 +90,17 @@ pub record Demand1 : Type 0 where
   pub read : (s : List ℕ) (reader : Reader) (out : List ℕ)
       → let p = pageOf s in
       let at = readingPlace p reader in
-      let bs = rest s p at in
+      let same = eqb (p .generation) (reader .generation) in
       let after = readOut s reader out in
       Asked reads.Refused at
       (λ refusal.
       pageTable s refusal
       ++ ((wrongReader p reader, refusal 13)
-      ∷ (eqb at (p .«write_pos») && eqb (p .generation) (reader .generation), reads.Empty)
-      ∷ (eqb at (p .«write_pos»), reads.Moved)
-      ∷ (not (passable (p .«cpu_id») (reader .last) bs), refusal 10)
-      ∷ (ltb (length out) (eventSize bs), refusal 14)
-      ∷ (true, reads.Event (eventSize bs)) ∷ []))
+      ∷ (eqb (reader .«read_pos») (p .«write_pos») && same, reads.Empty) ∷ (eqb (reader .«read_pos») (p .«write_pos»), reads.Moved)
+      ∷ (eqb at (p .«write_pos») && same, reads.Empty) ∷ (eqb at (p .«write_pos»), reads.Moved)
+      ∷ (not (passable (p .«cpu_id») (reader .last) (rest s p at)), refusal 10)
+      ∷ (ltb (length out) (eventSize (rest s p at)), refusal 14)
+      ∷ (true, reads.Event (eventSize (rest s p at))) ∷ []))
       (after .answered .answer) ((after .answered .reader ≡ reader) × (after .out ≡ out))
   pub follow : (s : List ℕ) (reader : Reader)
       → let p = pageOf s in

@@ -28,6 +28,7 @@ use Rattle.emit_rules.specs.declared.Label.{Label}
 use Rattle.emit_rules.specs.declared.Outcome.{Outcome}
 use Rattle.emit_rules.specs.declared.Outcome.the-variants as emits
 use Rattle.inspect_rules.specs.Inspect.{surveyed, summary, judged, inspected}
+use Rattle.inspect_rules.specs.declared.Survey.{Survey}
 use Rattle.inspect_rules.specs.declared.Summary.{Summary}
 use Rattle.inspect_rules.specs.declared.Inspected.{Inspected}
 use Rattle.inspect_rules.specs.declared.Inspected.the-variants as inspects
@@ -37,7 +38,6 @@ use Rattle.reader_rules.specs.Read.{AfterRead, untouched, readingPlace, nothing
 use Rattle.reader_rules.specs.declared.Reader.{Reader}
 use Rattle.reader_rules.specs.declared.Attached.{Attached}
 use Rattle.reader_rules.specs.declared.Attachment.{Attachment}
-use Rattle.reader_rules.specs.declared.Attachment.the-variants as attaches
 use Rattle.reader_rules.specs.declared.Reading.{Reading}
 use Rattle.reader_rules.specs.declared.Reading.the-variants as reads
 use Rattle.follow_rules.specs.Follow.{followRows, followedOn, followed}
@@ -46,7 +46,7 @@ use Rattle.swap_rules.specs.declared.SwapOutcome.{SwapOutcome}
 use Rattle.swap_rules.specs.declared.SwapOutcome.the-variants as swaps
 use Rattle.console_rules.specs.Console.{createdNumber, inspectedNumber, emittedNumber, isRefused, recordOf, recordAfter, Called, refusedCall, recordRows, emitCall}
 use Rattle.refusals.specs.Demand1.{Asked, walkTable, badPlace, emitTable, inspectTable, Demand1}
-use Rattle.refusals.proofs.Rows.{Outcomes, refused, Fits, refuses, says, past, either, ask, asks, asked}
+use Rattle.refusals.proofs.Rows.{Outcomes, Fits, refuses, says, past, either, ask, asks, asked}
 
 -- ---- what C is told too: for any way to tell an answer by which no other one is a refusal's
 
@@ -72,21 +72,20 @@ module _ {A : Type 0} (say : Inspected → A) (whole : (v : Summary) (r : Refusa
   abbrev inspections : Outcomes Inspected A
   inspections = record { answer = say; refuse = inspects.Refused; as-came = λ x. Unit {0}; keep = λ r. tt }
 
-  inspect-fits : Fits inspections
-      (inspectTable s (say (inspects.Whole (summary (surveyed s (pageOf s))))) (λ n. say (inspects.Refused (paperName (surveyed s (pageOf s) .stop) n))))
-      (inspected s)
+  abbrev v : Survey
+  v = surveyed s (pageOf s)
+
+  inspect-fits : Fits inspections (inspectTable s (say (inspects.Whole (summary v))) (λ n. say (inspects.Refused (paperName (v .stop) n)))) (inspected s)
   unfolding inspected judged damaged pageRows
-  inspect-fits = asks inspections (pageRows s) (by (eqb (surveyed s (pageOf s) .stop) (pageOf s .«write_pos»)))
+  inspect-fits = asks inspections (pageRows s) (by (eqb (v .stop) (pageOf s .«write_pos»)))
     where
       by : (b : Bool)
-          → Fits inspections
-          ((not b, say (inspects.Refused (refusal.Damaged (surveyed s (pageOf s) .stop)))) ∷ (true, say (inspects.Whole (summary (surveyed s (pageOf s))))) ∷ [])
-          (cond b (inspects.Whole (summary (surveyed s (pageOf s)))) (inspects.Refused (refusal.Damaged (surveyed s (pageOf s) .stop))))
-      by true = past inspections (says inspections refl (whole _))
-      by false = refuses inspections _
+          → Fits inspections ((not b, say (inspects.Refused (refusal.Damaged (v .stop)))) ∷ (true, say (inspects.Whole (summary v))) ∷ [])
+          (cond b (inspects.Whole (summary v)) (inspects.Refused (refusal.Damaged (v .stop))))
+      by true = past inspections (says inspections refl (whole (summary v)))
+      by false = refuses inspections (refusal.Damaged (v .stop))
 
-  inspect-asked : Asked (λ r. say (inspects.Refused r)) (surveyed s (pageOf s) .stop) (inspectTable s (say (inspects.Whole (summary (surveyed s (pageOf s))))))
-      (say (inspected s)) (Unit {0})
+  inspect-asked : Asked (λ r. say (inspects.Refused r)) (v .stop) (inspectTable s (say (inspects.Whole (summary v)))) (say (inspected s)) (Unit {0})
   inspect-asked = asked inspections inspect-fits
 
 module _ {A : Type 0} (say : Outcome → A) (other : (e : Outcome) → isRefused e ≡ false → (r : Refusal) → say e ≡ say (emits.Refused r) → ⊥)

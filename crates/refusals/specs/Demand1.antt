@@ -37,8 +37,8 @@ use Rattle.swap_rules.specs.Swap.{lastGeneration, damaged, countDiffers, exchan
 use Rattle.swap_rules.specs.declared.SwapOutcome.the-variants as swaps
 use Rattle.console_rules.specs.Console.{createdNumber, inspectedNumber, recordOf, emitCall}
 
--- of a call: how it answers a refusal, and at which place 10; its table, which is told the answers of the refusals' numbers; its answer; and that all it
--- was lent to change is as it came
+-- what is promised of a call: `refused` is its answer to a refusal, 10 bearing `place`; the table is handed that answer for each number; `unchanged` says
+-- that all it was lent to change is as it came
 pub record Asked {A : Type 0} (refused : Refusal → A) (place : ℕ) (table : (ℕ → A) → List (Bool × A)) (answer : A) (unchanged : Type 0) : Type 0 where
   -- an answer is given exactly where its row is the first that holds, and so every answer is one of the table's
   pub exact : (a : A) → (answer ≡ a) ↔ ((turn : ℕ) × Stops turn (table (λ n. refused (paperName place n))) a)
@@ -50,7 +50,7 @@ pageTable s refusal =
     (tooShort s, refusal 1) ∷ (wrongMark s, refusal 2) ∷ (wrongVersion s, refusal 3) ∷ (wrongLayout s, refusal 4)
     ∷ (wrongLength s, refusal 5) ∷ (wrongPosition (pageOf s), refusal 6) ∷ []
 
--- by the end of an emission's walk
+-- how an emission's walk ended: the rows, and the place that 10 bears
 abbrev pub walkTable : {A : Type 0} → Writer → Walk → (ℕ → A) → List (Bool × A)
 walkTable w walks.NoRoom refusal = (true, refusal 12) ∷ []
 walkTable w (walks.Damaged place) refusal = (true, refusal 10) ∷ []
@@ -72,7 +72,7 @@ emitTable s w size dropped wake done refusal =
 abbrev pub inspectTable : {A : Type 0} → List ℕ → A → (ℕ → A) → List (Bool × A)
 inspectTable s whole refusal = pageTable s refusal ++ ((damaged s (pageOf s), refusal 10) ∷ (true, whole) ∷ [])
 
--- ring, record and output buffer are lent to be changed where the paper has them changed; an inspection changes nothing
+-- all but creation, emission and swap are lent the ring to be read only, and an inspection is lent nothing else
 pub record Demand1 : Type 0 where
   pub create : (cpu : ℕ) (s : List ℕ)
       → Asked creates.Refused 0 (λ refusal. (wrongSize s, refusal 16) ∷ (true, creates.Done) ∷ []) (created s) (afterCreate cpu s ≡ s)

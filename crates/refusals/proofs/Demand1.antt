@@ -3,7 +3,7 @@ use Prim.Native.Nat.{ℕ, _+_, _-_}
 use native.Mathlib.Omega.{arith}
 use mathlib.Core.Path.{_≡_, refl, sym, ap, _∙_, subst}
 use mathlib.Core.Logic.{_↔_}
-use mathlib.Core.Bool.{Bool, true, false, not, _&&_, cond, true≢false}
+use mathlib.Core.Bool.{Bool, true, false, _&&_, cond, true≢false}
 use mathlib.Core.List.{List, [], _∷_, _++_}
 use lib.ListN.{length}
 use lib.Dec.{eqb}
@@ -27,7 +27,7 @@ use Rattle.emit_rules.specs.Emit as emit
 use Rattle.emit_rules.specs.declared.Label.{Label}
 use Rattle.emit_rules.specs.declared.Outcome.{Outcome}
 use Rattle.emit_rules.specs.declared.Outcome.the-variants as emits
-use Rattle.inspect_rules.specs.Inspect.{surveyed, summary, judged, inspected}
+use Rattle.inspect_rules.specs.Inspect.{surveyed, summary, inspectionRow, inspectedOn, inspected}
 use Rattle.inspect_rules.specs.declared.Survey.{Survey}
 use Rattle.inspect_rules.specs.declared.Summary.{Summary}
 use Rattle.inspect_rules.specs.declared.Inspected.{Inspected}
@@ -41,7 +41,7 @@ use Rattle.reader_rules.specs.declared.Attachment.{Attachment}
 use Rattle.reader_rules.specs.declared.Reading.{Reading}
 use Rattle.reader_rules.specs.declared.Reading.the-variants as reads
 use Rattle.follow_rules.specs.Follow.{followRows, followedOn, followed}
-use Rattle.swap_rules.specs.Swap.{AfterSwap, refuse, exchanging, damaged, swapRows, carriedOver, exchangeOn, exchange}
+use Rattle.swap_rules.specs.Swap.{AfterSwap, refuse, exchanging, swapRows, carriedOver, exchangeOn, exchange}
 use Rattle.swap_rules.specs.declared.SwapOutcome.{SwapOutcome}
 use Rattle.swap_rules.specs.declared.SwapOutcome.the-variants as swaps
 use Rattle.console_rules.specs.Console.{createdNumber, inspectedNumber, emittedNumber, isRefused, recordOf, recordAfter, Called, refusedCall, recordRows, emitCall}
@@ -76,14 +76,8 @@ module _ {A : Type 0} (say : Inspected → A) (whole : (v : Summary) (r : Refusa
   v = surveyed s (pageOf s)
 
   inspect-fits : Fits inspections (inspectTable s (say (inspects.Whole (summary v))) (λ n. say (inspects.Refused (paperName (v .stop) n)))) (inspected s)
-  unfolding inspected judged damaged pageRows
-  inspect-fits = asks inspections (pageRows s) (by (eqb (v .stop) (pageOf s .«write_pos»)))
-    where
-      by : (b : Bool)
-          → Fits inspections ((not b, say (inspects.Refused (refusal.Damaged (v .stop)))) ∷ (true, say (inspects.Whole (summary v))) ∷ [])
-          (cond b (inspects.Whole (summary v)) (inspects.Refused (refusal.Damaged (v .stop))))
-      by true = past inspections (says inspections refl (whole (summary v)))
-      by false = refuses inspections (refusal.Damaged (v .stop))
+  unfolding inspected inspectedOn pageRows
+  inspect-fits = asks inspections (pageRows s) (asks inspections (inspectionRow s (pageOf s) ∷ []) (says inspections refl (whole (summary v))))
 
   inspect-asked : Asked (λ r. say (inspects.Refused r)) (v .stop) (inspectTable s (say (inspects.Whole (summary v)))) (say (inspected s)) (Unit {0})
   inspect-asked = asked inspections inspect-fits
@@ -186,7 +180,7 @@ exchanged true = refl
 exchanged false = refl
 
 pub demand1 : Demand1
-unfolding attached readOut readOpened ending readAt eventRows followed followedOn followRows exchange exchangeOn swapRows carriedOver damaged pageRows emitCall recordRows recordAfter
+unfolding attached readOut readOpened ending readAt eventRows followed followedOn followRows exchange exchangeOn swapRows carriedOver pageRows emitCall recordRows recordAfter
 demand1 =
     record {
       create = create-asked (λ x. x) (λ r e. let z : _≡_ {A = ℕ} 0 1 = cc in omega arith);

@@ -24,7 +24,7 @@ use Rattle.create_rules.specs.declared.Created.the-variants as creates
 use Rattle.emit_rules.specs.Emit.{tooLarge, tooFar, disagrees, walkEnd, emission}
 use Rattle.emit_rules.specs.declared.Label.{Label}
 use Rattle.emit_rules.specs.declared.Outcome.the-variants as emits
-use Rattle.inspect_rules.specs.Inspect.{surveyed, summary, inspected}
+use Rattle.inspect_rules.specs.Inspect.{surveyed, summary, damaged, inspected}
 use Rattle.inspect_rules.specs.declared.Inspected.the-variants as inspects
 use Rattle.reader_rules.specs.Reader.{miscounted, wrongReader}
 use Rattle.reader_rules.specs.Attach.{attached}
@@ -33,7 +33,7 @@ use Rattle.reader_rules.specs.declared.Reader.{Reader}
 use Rattle.reader_rules.specs.declared.Attachment.the-variants as attaches
 use Rattle.reader_rules.specs.declared.Reading.the-variants as reads
 use Rattle.follow_rules.specs.Follow.{followed}
-use Rattle.swap_rules.specs.Swap.{lastGeneration, damaged, countDiffers, exchange}
+use Rattle.swap_rules.specs.Swap.{lastGeneration, countDiffers, exchange}
 use Rattle.swap_rules.specs.declared.SwapOutcome.the-variants as swaps
 use Rattle.console_rules.specs.Console.{createdNumber, inspectedNumber, recordOf, emitCall}
 

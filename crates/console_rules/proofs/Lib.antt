@@ -1,3 +1,3 @@
 pub mod Record
 pub mod Calls
-pub mod Refusals
+pub mod Header

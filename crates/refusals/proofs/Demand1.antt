@@ -1,0 +1,235 @@
+-- Demand 1: each operation's definition is gone through test by test, beside the rows of its table.
+use Prim.Native.Nat.{ℕ, _+_, _-_}
+use native.Mathlib.Omega.{arith}
+use mathlib.Core.Path.{_≡_, refl, sym, ap, _∙_, subst}
+use mathlib.Core.Logic.{_↔_}
+use mathlib.Core.Bool.{Bool, true, false, _&&_, cond, true≢false}
+use mathlib.Core.List.{List, [], _∷_, _++_}
+use lib.ListN.{length}
+use lib.Dec.{eqb}
+use Rattle.table_rules.specs.Table.{first, Stops}
+use Rattle.table_rules.specs.Refusals.{paperNumber, paperName}
+use Rattle.table_rules.specs.declared.Refusal.{Refusal}
+use Rattle.table_rules.specs.declared.Refusal.the-variants as refusal
+use Rattle.table_rules.proofs.Numbers.{named-at, is-numbered}
+use Rattle.page_rules.specs.Page.{pageOf, pageRows}
+use Rattle.page_rules.specs.declared.Page.{Page}
+use Rattle.page_rules.specs.Fresh.{blank}
+use Rattle.page_rules.specs.Wake.{needWake, wakes}
+use Rattle.event_rules.specs.declared.Walk.{Walk}
+use Rattle.event_rules.specs.declared.Walk.the-variants as walks
+use Rattle.look_rules.specs.Live.{rest}
+use Rattle.writer_rules.specs.declared.Writer.{Writer}
+use Rattle.create_rules.specs.Create.{wrongSize, createRows, created, afterCreate}
+use Rattle.create_rules.specs.declared.Created.{Created}
+use Rattle.create_rules.specs.declared.Created.the-variants as creates
+use Rattle.emit_rules.specs.Emit as emit
+use Rattle.emit_rules.specs.declared.Label.{Label}
+use Rattle.emit_rules.specs.declared.Outcome.{Outcome}
+use Rattle.emit_rules.specs.declared.Outcome.the-variants as emits
+use Rattle.inspect_rules.specs.Inspect.{surveyed, summary, inspectionRow, inspectedOn, inspected}
+use Rattle.inspect_rules.specs.declared.Survey.{Survey}
+use Rattle.inspect_rules.specs.declared.Summary.{Summary}
+use Rattle.inspect_rules.specs.declared.Inspected.{Inspected}
+use Rattle.inspect_rules.specs.declared.Inspected.the-variants as inspects
+use Rattle.reader_rules.specs.Attach.{notAttached, attached}
+use Rattle.reader_rules.specs.Reader.{wrongReader}
+use Rattle.reader_rules.specs.Read.{AfterRead, untouched, readingPlace, nothing, ending, eventRows, readAt, readOpened, readOut}
+use Rattle.reader_rules.specs.declared.Reader.{Reader}
+use Rattle.reader_rules.specs.declared.Attached.{Attached}
+use Rattle.reader_rules.specs.declared.Attachment.{Attachment}
+use Rattle.reader_rules.specs.declared.Reading.{Reading}
+use Rattle.reader_rules.specs.declared.Reading.the-variants as reads
+use Rattle.follow_rules.specs.Follow.{followRows, followedOn, followed}
+use Rattle.swap_rules.specs.Swap.{AfterSwap, refuse, exchanging, swapRows, carriedOver, exchangeOn, exchange}
+use Rattle.swap_rules.specs.declared.SwapOutcome.{SwapOutcome}
+use Rattle.swap_rules.specs.declared.SwapOutcome.the-variants as swaps
+use Rattle.console_rules.specs.Console.{createdNumber, inspectedNumber, emittedNumber, isRefused, recordOf, recordAfter, Called, refusedCall, recordRows, emitCall}
+use Rattle.refusals.specs.Demand1.{Asked, walkTable, badPlace, emitTable, inspectTable, Demand1}
+use Rattle.refusals.proofs.Rows.{Outcomes, Fits, refuses, says, past, either, ask, asks, asked}
+
+-- ---- what C is told too: for any way to tell an answer by which no other one is a refusal's
+
+module _ {A : Type 0} (say : Created → A) (done : (r : Refusal) → say creates.Done ≡ say (creates.Refused r) → ⊥) (cpu : ℕ) (s : List ℕ) where
+  abbrev creations : Outcomes (Created × List ℕ) A
+  creations = record { answer = λ x. say (x .0); refuse = λ r. (creates.Refused r, s); as-came = λ x. x .1 ≡ s; keep = λ r. refl }
+
+  create-fits : Fits creations ((wrongSize s, say (creates.Refused refusal.Size)) ∷ (true, say creates.Done) ∷ []) (created s, afterCreate cpu s)
+  unfolding created afterCreate createRows first
+  create-fits = by (wrongSize s)
+    where
+      by : (b : Bool)
+          → Fits creations ((b, say (creates.Refused refusal.Size)) ∷ (true, say creates.Done) ∷ [])
+          (cond b (creates.Refused refusal.Size) creates.Done, cond b s (blank cpu (length s - 8192) 1))
+      by true = refuses creations refusal.Size
+      by false = past creations (says creations refl done)
+
+  create-asked : Asked (λ r. say (creates.Refused r)) 0 (λ refusal. (wrongSize s, refusal 16) ∷ (true, say creates.Done) ∷ []) (say (created s))
+      (afterCreate cpu s ≡ s)
+  create-asked = asked creations create-fits
+
+module _ {A : Type 0} (say : Inspected → A) (whole : (v : Summary) (r : Refusal) → say (inspects.Whole v) ≡ say (inspects.Refused r) → ⊥) (s : List ℕ) where
+  abbrev inspections : Outcomes Inspected A
+  inspections = record { answer = say; refuse = inspects.Refused; as-came = λ x. Unit {0}; keep = λ r. tt }
+
+  abbrev v : Survey
+  v = surveyed s (pageOf s)
+
+  inspect-fits : Fits inspections (inspectTable s (say (inspects.Whole (summary v))) (λ n. say (inspects.Refused (paperName (v .stop) n)))) (inspected s)
+  unfolding inspected inspectedOn pageRows
+  inspect-fits = asks inspections (pageRows s) (asks inspections (inspectionRow s (pageOf s) ∷ []) (says inspections refl (whole (summary v))))
+
+  inspect-asked : Asked (λ r. say (inspects.Refused r)) (v .stop) (inspectTable s (say (inspects.Whole (summary v)))) (say (inspected s)) (Unit {0})
+  inspect-asked = asked inspections inspect-fits
+
+module _ {A : Type 0} (say : Outcome → A) (other : (e : Outcome) → isRefused e ≡ false → (r : Refusal) → say e ≡ say (emits.Refused r) → ⊥)
+    (s : List ℕ) (w : Writer) (as-came : emit.AfterEmit → Type 0) (keep : (r : Refusal) → as-came (emit.refuse s w r)) where
+  abbrev emissions : Outcomes emit.AfterEmit A
+  emissions = record { answer = λ x. say (x .answer .outcome); refuse = emit.refuse s w; as-came = as-came; keep = keep }
+
+  accepted : (b : Bool) → say (emit.accepting b) ≡ cond b (say emits.Wake) (say emits.Done)
+  accepted true = refl
+  accepted false = refl
+
+  ended-fits : (p : Page) (event : List ℕ) (end : Walk)
+      → Fits emissions
+      (walkTable w end (λ n. say (emits.Refused (paperName (badPlace end) n))) ++ ((wakes (needWake s), say emits.Wake) ∷ (true, say emits.Done) ∷ []))
+      (emit.ended s p w event end)
+  unfolding emit.acceptance first
+  ended-fits p event walks.NoRoom = refuses emissions refusal.NoRoom
+  ended-fits p event (walks.Damaged place) = refuses emissions (refusal.Damaged place)
+  ended-fits p event (walks.Room tail passed) =
+      asks emissions ((emit.disagrees w passed, refusal.Disagree) ∷ [])
+      (either emissions (wakes (needWake s)) (accepted (wakes (needWake s))) (other emits.Wake refl) (other emits.Done refl))
+
+  emit-fits : (label : Label) (payload : List ℕ)
+      → Fits emissions
+      (emitTable s w (32 + length payload) (say emits.Dropped) (say emits.Wake) (say emits.Done)
+      (λ n. say (emits.Refused (paperName (badPlace (emit.walkEnd s (pageOf s) (32 + length payload))) n))))
+      (emit.emission s w label payload)
+  unfolding emit.emission emit.emittedOn emit.writerRows emit.dropped emit.placed pageRows
+  emit-fits label payload =
+      asks emissions (pageRows s)
+      (asks emissions (emit.writerRows w)
+      (ask emissions (emit.tooLarge (pageOf s) (32 + length payload)) refl (other emits.Dropped refl)
+      (asks emissions ((emit.tooFar (pageOf s) (32 + length payload), refusal.Far) ∷ [])
+      (ended-fits (pageOf s) (emit.eventOf (pageOf s) w label payload) (emit.walkEnd s (pageOf s) (32 + length payload))))))
+
+  emit-asked : (label : Label) (payload : List ℕ)
+      → Asked (λ r. say (emits.Refused r)) (badPlace (emit.walkEnd s (pageOf s) (32 + length payload)))
+      (emitTable s w (32 + length payload) (say emits.Dropped) (say emits.Wake) (say emits.Done)) (say (emit.emission s w label payload .answer .outcome))
+      (as-came (emit.emission s w label payload))
+  emit-asked label payload = asked emissions (emit-fits label payload)
+
+-- ---- the numbers that C is told
+
+-- 0, 20 and 21 are no refusal's
+free : (n : ℕ) → (paperNumber (paperName 0 n) ≡ n → ⊥) → (r : Refusal) → n ≡ paperNumber r → ⊥
+free n differ r e = differ (is-numbered r n e)
+
+emitted-free : (e : Outcome) → isRefused e ≡ false → (r : Refusal) → emittedNumber e ≡ paperNumber r → ⊥
+emitted-free emits.Done is = free 0 (λ e. omega arith)
+emitted-free emits.Wake is = free 21 (λ e. omega arith)
+emitted-free emits.Dropped is = free 20 (λ e. omega arith)
+emitted-free (emits.Refused r) is = absurd (true≢false is)
+
+-- no place is told
+unplaced : (place : ℕ) {table : (ℕ → ℕ) → List (Bool × ℕ)} {answer : ℕ} {as-came : Type 0}
+    → Asked paperNumber place table answer as-came → Asked paperNumber 0 table answer as-came
+unplaced place {table} {answer} h =
+    record {
+      exact =
+          λ a.
+          subst (λ (refusal : ℕ → ℕ). (answer ≡ a) ↔ ((turn : ℕ) × Stops turn (table refusal) a))
+          (λ i n. (named-at place n ∙ sym (named-at 0 n)) i) (h .exact a);
+      kept = h .kept;
+    }
+
+abbrev calls : (s bytes : List ℕ) → Outcomes Called ℕ
+calls s bytes =
+    record { answer = λ x. x .answer; refuse = refusedCall s bytes; as-came = λ x. (x .ring ≡ s) × (x .kept ≡ bytes); keep = λ r. (refl, refl) }
+
+-- ---- the readers
+
+abbrev attachments : Reader → Outcomes Attached Attachment
+attachments reader = record { answer = λ x. x .answer; refuse = notAttached reader; as-came = λ x. x .reader ≡ reader; keep = λ r. refl }
+
+module _ (reader : Reader) (out : List ℕ) where
+  abbrev readings : Outcomes AfterRead Reading
+  readings =
+      record {
+        answer = λ x. x .answered .answer;
+        refuse = untouched reader out;
+        as-came = λ x. (x .answered .reader ≡ reader) × (x .out ≡ out);
+        keep = λ r. (refl, refl);
+      }
+
+  end-fits : (at : ℕ) (at-end same : Bool) {rows : List (Bool × Reading)} {x : AfterRead} → Fits readings rows x
+      → Fits readings ((at-end && same, reads.Empty) ∷ (at-end, reads.Moved) ∷ rows) (cond at-end (nothing (cond same reads.Empty reads.Moved) at reader out) x)
+  end-fits at true true fits = says readings refl (λ r e. let z : _≡_ {A = ℕ} 0 1 = cc in omega arith)
+  end-fits at true false fits = past readings (says readings refl (λ r e. let z : _≡_ {A = ℕ} 0 1 = cc in omega arith))
+  end-fits at false same fits = past readings (past readings fits)
+
+-- ---- every operation
+
+emitted-other : (e : Outcome) → isRefused e ≡ false → (r : Refusal) → e ≡ emits.Refused r → ⊥
+emitted-other e is r told = true≢false (sym (ap isRefused told) ∙ is)
+
+exchanged : (b : Bool) → exchanging b ≡ cond b swaps.Wake swaps.Done
+exchanged true = refl
+exchanged false = refl
+
+pub demand1 : Demand1
+unfolding attached readOut readOpened ending readAt eventRows followed followedOn followRows exchange exchangeOn swapRows carriedOver pageRows emitCall recordRows recordAfter
+demand1 =
+    record {
+      create = create-asked (λ x. x) (λ r e. let z : _≡_ {A = ℕ} 0 1 = cc in omega arith);
+      emit = λ s w. emit-asked (λ x. x) emitted-other s w (λ x. (x .ring ≡ s) × (x .answer .writer ≡ w)) (λ r. (refl, refl));
+      inspect = inspect-asked (λ x. x) (λ v r e. let z : _≡_ {A = ℕ} 0 1 = cc in omega arith);
+      attach =
+          λ s reader.
+          asked (attachments reader)
+          (asks (attachments reader) (pageRows s) (says (attachments reader) refl (λ r e. let z : _≡_ {A = ℕ} 0 1 = cc in omega arith)));
+      read =
+          λ s reader out.
+          let o : Outcomes AfterRead Reading = readings reader out in
+          let p = pageOf s in
+          let at = readingPlace p reader in
+          asked o
+          (asks o (pageRows s)
+          (asks o ((wrongReader p reader, refusal.Reader) ∷ [])
+          (end-fits reader out (reader .«read_pos») (eqb (reader .«read_pos») (p .«write_pos»)) (eqb (p .generation) (reader .generation))
+          (end-fits reader out at (eqb at (p .«write_pos»)) (eqb (p .generation) (reader .generation))
+          (asks o (eventRows (p .«cpu_id») reader out at (rest s p at))
+          (says o refl (λ r e. let z : _≡_ {A = ℕ} 0 1 = cc in omega arith)))))));
+      follow =
+          λ s reader.
+          asked (attachments reader)
+          (asks (attachments reader) (pageRows s)
+          (asks (attachments reader) (followRows s (pageOf s) reader)
+          (says (attachments reader) refl (λ r e. let z : _≡_ {A = ℕ} 0 1 = cc in omega arith))));
+      swap =
+          λ s t w.
+          let o : Outcomes AfterSwap SwapOutcome =
+          record {
+            answer = λ x. x .answer .outcome;
+            refuse = refuse s t w;
+            as-came = λ x. (x .old ≡ s) × (x .new ≡ t) × (x .answer .writer ≡ w);
+            keep = λ r. (refl, refl, refl);
+          } in
+          asked o
+          (asks o (pageRows s)
+          (asks o (swapRows s (pageOf s) t w)
+          (either o (wakes (needWake s)) (exchanged (wakes (needWake s))) (λ r e. let z : _≡_ {A = ℕ} 0 1 = cc in omega arith)
+          (λ r e. let z : _≡_ {A = ℕ} 0 1 = cc in omega arith))));
+      create-call = create-asked createdNumber (free 0 (λ e. omega arith));
+      emit-call =
+          λ s bytes timestamp type class payload.
+          let size = 32 + length payload in
+          unplaced (badPlace (emit.walkEnd s (pageOf s) size))
+          (asked (calls s bytes)
+          (asks (calls s bytes) (recordRows bytes)
+          (emit-fits emittedNumber emitted-free s (recordOf bytes) (λ x. (x .ring ≡ s) × (recordAfter bytes (x .answer) ≡ bytes)) (λ r. (refl, refl))
+          (record { timestamp = timestamp; «event_type» = type; «origin_class» = class }) payload)));
+      inspect-call = λ s. unplaced (surveyed s (pageOf s) .stop) (inspect-asked inspectedNumber (λ v. free 0 (λ e. omega arith)) s);
+    }

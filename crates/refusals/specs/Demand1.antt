@@ -1,0 +1,131 @@
+-- Demand 1, of any bytes and any numbers: "A refusal writes nothing and returns the record as given. Each is given exactly when its condition is met at
+-- its turn" (document 01). A table holds an operation's questions in the paper's order, each with its answer, and in the last row what is left to answer.
+use Prim.Native.Nat.{ℕ, _+_, _-_, _^_}
+use mathlib.Core.Path.{_≡_}
+use mathlib.Core.Logic.{_↔_}
+use mathlib.Core.Bool.{Bool, true, not, _&&_}
+use mathlib.Core.List.{List, [], _∷_, _++_}
+use lib.ListN.{length}
+use lib.Dec.{eqb, leb, ltb}
+use Rattle.table_rules.specs.Table.{Stops}
+use Rattle.table_rules.specs.Refusals.{paperNumber, paperName}
+use Rattle.table_rules.specs.declared.Refusal.{Refusal}
+use Rattle.page_rules.specs.Page.{pageOf, tooShort, wrongMark, wrongVersion, wrongLayout, wrongLength, wrongPosition}
+use Rattle.page_rules.specs.Wake.{needWake, wakes}
+use Rattle.event_rules.specs.Event.{eventSize}
+use Rattle.event_rules.specs.Run.{passable}
+use Rattle.event_rules.specs.declared.Walk.{Walk}
+use Rattle.event_rules.specs.declared.Walk.the-variants as walks
+use Rattle.look_rules.specs.Live.{rest}
+use Rattle.writer_rules.specs.Writer.{wrongWriter}
+use Rattle.writer_rules.specs.declared.Writer.{Writer}
+use Rattle.create_rules.specs.Create.{wrongSize, created, afterCreate}
+use Rattle.create_rules.specs.declared.Created.the-variants as creates
+use Rattle.emit_rules.specs.Emit.{tooLarge, tooFar, disagrees, walkEnd, emission}
+use Rattle.emit_rules.specs.declared.Label.{Label}
+use Rattle.emit_rules.specs.declared.Outcome.the-variants as emits
+use Rattle.inspect_rules.specs.Inspect.{surveyed, summary, damaged, inspected}
+use Rattle.inspect_rules.specs.declared.Inspected.the-variants as inspects
+use Rattle.reader_rules.specs.Reader.{miscounted, wrongReader}
+use Rattle.reader_rules.specs.Attach.{attached}
+use Rattle.reader_rules.specs.Read.{readingPlace, readOut}
+use Rattle.reader_rules.specs.declared.Reader.{Reader}
+use Rattle.reader_rules.specs.declared.Attachment.the-variants as attaches
+use Rattle.reader_rules.specs.declared.Reading.the-variants as reads
+use Rattle.follow_rules.specs.Follow.{followed}
+use Rattle.swap_rules.specs.Swap.{lastGeneration, countDiffers, exchange}
+use Rattle.swap_rules.specs.declared.SwapOutcome.the-variants as swaps
+use Rattle.console_rules.specs.Console.{createdNumber, inspectedNumber, recordOf, emitCall}
+
+-- what is promised of a call: `refused` is its answer to a refusal, 10 bearing `place`; the table is handed that answer for each number; `unchanged` says
+-- that all it was lent to change is as it came
+pub record Asked {A : Type 0} (refused : Refusal → A) (place : ℕ) (table : (ℕ → A) → List (Bool × A)) (answer : A) (unchanged : Type 0) : Type 0 where
+  -- an answer is given exactly where its row is the first that holds, and so every answer is one of the table's
+  pub exact : (a : A) → (answer ≡ a) ↔ ((turn : ℕ) × Stops turn (table (λ n. refused (paperName place n))) a)
+  pub kept : (r : Refusal) → answer ≡ refused r → unchanged
+
+-- 1 to 6, which all but creation ask first
+abbrev pub pageTable : {A : Type 0} → List ℕ → (ℕ → A) → List (Bool × A)
+pageTable s refusal =
+    (tooShort s, refusal 1) ∷ (wrongMark s, refusal 2) ∷ (wrongVersion s, refusal 3) ∷ (wrongLayout s, refusal 4)
+    ∷ (wrongLength s, refusal 5) ∷ (wrongPosition (pageOf s), refusal 6) ∷ []
+
+-- how an emission's walk ended: the rows, and the place that 10 bears
+abbrev pub walkTable : {A : Type 0} → Writer → Walk → (ℕ → A) → List (Bool × A)
+walkTable w walks.NoRoom refusal = (true, refusal 12) ∷ []
+walkTable w (walks.Damaged place) refusal = (true, refusal 10) ∷ []
+walkTable w (walks.Room tail passed) refusal = (disagrees w passed, refusal 11) ∷ []
+
+abbrev pub badPlace : Walk → ℕ
+badPlace walks.NoRoom = 0
+badPlace (walks.Damaged place) = place
+badPlace (walks.Room tail passed) = 0
+
+abbrev pub emitTable : {A : Type 0} → List ℕ → Writer → ℕ → A → A → A → (ℕ → A) → List (Bool × A)
+emitTable s w size dropped wake done refusal =
+    let p = pageOf s in
+    pageTable s refusal
+    ++ ((wrongWriter w, refusal 7) ∷ (eqb (w .last) (2 ^ 64 - 1), refusal 8) ∷ (tooLarge p size, dropped) ∷ (tooFar p size, refusal 9) ∷ [])
+    ++ walkTable w (walkEnd s p size) refusal
+    ++ ((wakes (needWake s), wake) ∷ (true, done) ∷ [])
+
+abbrev pub inspectTable : {A : Type 0} → List ℕ → A → (ℕ → A) → List (Bool × A)
+inspectTable s whole refusal = pageTable s refusal ++ ((damaged s (pageOf s), refusal 10) ∷ (true, whole) ∷ [])
+
+-- all but creation, emission and swap are lent the ring to be read only, and an inspection is lent nothing else
+pub record Demand1 : Type 0 where
+  pub create : (cpu : ℕ) (s : List ℕ)
+      → Asked creates.Refused 0 (λ refusal. (wrongSize s, refusal 16) ∷ (true, creates.Done) ∷ []) (created s) (afterCreate cpu s ≡ s)
+  pub emit : (s : List ℕ) (w : Writer) (label : Label) (payload : List ℕ)
+      → let size = 32 + length payload in
+      let after = emission s w label payload in
+      Asked emits.Refused (badPlace (walkEnd s (pageOf s) size)) (emitTable s w size emits.Dropped emits.Wake emits.Done)
+      (after .answer .outcome) ((after .ring ≡ s) × (after .answer .writer ≡ w))
+  pub inspect : (s : List ℕ)
+      → let v = surveyed s (pageOf s) in
+      Asked inspects.Refused (v .stop) (inspectTable s (inspects.Whole (summary v))) (inspected s) (Unit {0})
+  pub attach : (s : List ℕ) (reader : Reader)
+      → let after = attached s reader in
+      Asked attaches.Refused 0 (λ refusal. pageTable s refusal ++ ((true, attaches.Done) ∷ [])) (after .answer) (after .reader ≡ reader)
+  pub read : (s : List ℕ) (reader : Reader) (out : List ℕ)
+      → let p = pageOf s in
+      let at = readingPlace p reader in
+      let same = eqb (p .generation) (reader .generation) in
+      let after = readOut s reader out in
+      Asked reads.Refused at
+      (λ refusal.
+      pageTable s refusal
+      ++ ((wrongReader p reader, refusal 13)
+      ∷ (eqb (reader .«read_pos») (p .«write_pos») && same, reads.Empty) ∷ (eqb (reader .«read_pos») (p .«write_pos»), reads.Moved)
+      ∷ (eqb at (p .«write_pos») && same, reads.Empty) ∷ (eqb at (p .«write_pos»), reads.Moved)
+      ∷ (not (passable (p .«cpu_id») (reader .last) (rest s p at)), refusal 10)
+      ∷ (ltb (length out) (eventSize (rest s p at)), refusal 14)
+      ∷ (true, reads.Event (eventSize (rest s p at))) ∷ []))
+      (after .answered .answer) ((after .answered .reader ≡ reader) × (after .out ≡ out))
+  pub follow : (s : List ℕ) (reader : Reader)
+      → let p = pageOf s in
+      let after = followed s reader in
+      Asked attaches.Refused (surveyed s p .stop)
+      (λ refusal.
+      pageTable s refusal
+      ++ ((miscounted reader, refusal 13) ∷ (leb (p .generation) (reader .generation), refusal 15) ∷ (damaged s p, refusal 10)
+      ∷ (true, attaches.Done) ∷ []))
+      (after .answer) (after .reader ≡ reader)
+  pub swap : (s t : List ℕ) (w : Writer)
+      → let p = pageOf s in
+      let after = exchange s t w in
+      Asked swaps.Refused (surveyed s p .stop)
+      (λ refusal.
+      pageTable s refusal
+      ++ ((wrongWriter w, refusal 7) ∷ (wrongSize t, refusal 16) ∷ (lastGeneration p, refusal 15) ∷ (damaged s p, refusal 10)
+      ∷ (countDiffers s p w, refusal 11) ∷ (wakes (needWake s), swaps.Wake) ∷ (true, swaps.Done) ∷ []))
+      (after .answer .outcome) ((after .old ≡ s) × (after .new ≡ t) × (after .answer .writer ≡ w))
+  -- the calls of C, answered by number
+  pub create-call : (cpu : ℕ) (s : List ℕ)
+      → Asked paperNumber 0 (λ refusal. (wrongSize s, refusal 16) ∷ (true, 0) ∷ []) (createdNumber (created s)) (afterCreate cpu s ≡ s)
+  pub emit-call : (s bytes : List ℕ) (timestamp type class : ℕ) (payload : List ℕ)
+      → let after = emitCall s bytes timestamp type class payload in
+      Asked paperNumber 0
+      (λ refusal. (not (eqb (length bytes) 24), refusal 17) ∷ emitTable s (recordOf bytes) (32 + length payload) 20 21 0 refusal)
+      (after .answer) ((after .ring ≡ s) × (after .kept ≡ bytes))
+  pub inspect-call : (s : List ℕ) → Asked paperNumber 0 (inspectTable s 0) (inspectedNumber (inspected s)) (Unit {0})

@@ -1,23 +1,17 @@
 -- One ring with its writer and its one reader, and what emptying it is: reading until EMPTY, each read with the record that the read before handed
 -- back. Read is whatever answers; the operation's own is `readOut`.
 use Prim.Native.Nat.{ℕ, _+_, _≤_}
-use mathlib.Core.Path.{_≡_}
-use mathlib.Core.List.{List, [], _∷_, _++_, map}
-use lib.ListN.{length, drop}
-use Rattle.page_rules.specs.Page.{pageOf}
-use Rattle.create_rules.specs.Create.{afterCreate}
-use Rattle.writer_rules.specs.declared.Writer.{Writer}
-use Rattle.reader_rules.specs.Attach.{attached}
-use Rattle.reader_rules.specs.Read.{AfterRead, readOut}
-use Rattle.reader_rules.specs.declared.Reader.{Reader}
-use Rattle.reader_rules.specs.declared.Attached.{Attached}
+use mathlib.Core.{Path._≡_, List.List, List.[], List._∷_, List._++_, List.map}
+use lib.{ListN.length, ListN.drop}
+use Rattle.page_rules.specs.{Page.pageOf}
+use Rattle.create_rules.specs.{Create.afterCreate}
+use Rattle.writer_rules.specs.{declared.Writer.Writer}
+use Rattle.reader_rules.specs.{Attach.attached, Read.AfterRead, Read.readOut, declared.Reader.Reader, declared.Attached.Attached}
 use Rattle.reader_rules.specs.declared.Attachment.the-variants as attachment
 use Rattle.reader_rules.specs.declared.Reading.the-variants as reading
-use Rattle.run_rules.specs.Runs.{lastOf, LongestRun}
-use Rattle.history.specs.Ring.{sequenceOf, Numbered, Ring}
-use Rattle.promise.specs.Bytes.{Event, encode, State, consumed, Turn, made, after, acceptedOf}
-use Rattle.promise.specs.Holds.{Holds}
-use Rattle.promise.specs.Demand2.{createdState}
+use Rattle.run_rules.specs.{Runs.lastOf, Runs.LongestRun}
+use Rattle.history.specs.{Ring.sequenceOf, Ring.Numbered, Ring.Ring}
+use Rattle.promise.specs.{Bytes.Event, Bytes.encode, Bytes.State, Bytes.consumed, Bytes.Turn, Bytes.made, Bytes.after, Bytes.acceptedOf, Holds.Holds, Demand2.createdState}
 
 -- what a ring's consumer wrote into bytes 4096 to 8191
 pub record Consumer : Type 0 where

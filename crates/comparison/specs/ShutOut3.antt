@@ -1,13 +1,10 @@
 -- Wrong reads that don't meet the third demand, and a wrong attaching.
-use Rattle.table_rules.specs.declared.Refusal.{Refusal}
-use Rattle.page_rules.specs.Page.{pageOf}
-use Rattle.reader_rules.specs.Reader.{movedTo}
-use Rattle.reader_rules.specs.Attach.{atTail}
-use Rattle.reader_rules.specs.Read.{untouched}
+use Rattle.table_rules.specs.{declared.Refusal.Refusal}
+use Rattle.page_rules.specs.{Page.pageOf}
+use Rattle.reader_rules.specs.{Reader.movedTo, Attach.atTail, Read.untouched}
 use Rattle.reader_rules.specs.declared.Attachment.the-variants as attachment
 use Rattle.reader_rules.specs.declared.Reading.the-variants as reading
-use Rattle.comparison.specs.Emptying.{Read, Attach, NewlyAttachedBy}
-use Rattle.comparison.specs.Comparison.{Half, Promise3, DemandBy3}
+use Rattle.comparison.specs.{Emptying.Read, Emptying.Attach, Emptying.NewlyAttachedBy, Comparison.Half, Comparison.Promise3, Comparison.DemandBy3}
 
 -- always answers EMPTY
 abbrev pub idle : Read

@@ -1,20 +1,14 @@
 -- The second demand as the firmware's programmer is promised it: of the numbers answered, and of the bytes that each call leaves to the next.
 use Prim.Native.Nat.{ℕ, _+_, _^_, _<_}
-use mathlib.Core.Path.{_≡_}
-use mathlib.Core.Bool.{true, cond}
-use mathlib.Core.List.{List, [], _∷_}
-use lib.ListN.{length, replicate}
-use lib.Dec.{eqb}
-use Rattle.table_rules.specs.declared.Refusal.the-variants.{Spent, Far, Record}
-use Rattle.capacity_rules.specs.Capacity.{allowed}
-use Rattle.create_rules.specs.Create.{created, afterCreate}
-use Rattle.emit_rules.specs.Emit.{AfterEmit}
-use Rattle.emit_rules.specs.declared.Outcome.{Outcome}
-use Rattle.emit_rules.specs.declared.Outcome.the-variants.{Done, Wake, Dropped, Refused}
-use Rattle.console_rules.specs.Console.{createdNumber, recordOf, bytesOf, Called, emitCall}
-use Rattle.history.specs.Ring.{fresh}
-use Rattle.promise.specs.Bytes.{consumed, Turn, uncalled, left, Made}
-use Rattle.promise.specs.Demand2.{Promise}
+use mathlib.Core.{Path._≡_, Bool.true, Bool.cond, List.List, List.[], List._∷_}
+use lib.{ListN.length, ListN.replicate, Dec.eqb}
+use Rattle.table_rules.specs.{declared.Refusal.the-variants.Spent, declared.Refusal.the-variants.Far, declared.Refusal.the-variants.Record}
+use Rattle.capacity_rules.specs.{Capacity.allowed}
+use Rattle.create_rules.specs.{Create.created, Create.afterCreate}
+use Rattle.emit_rules.specs.{Emit.AfterEmit, declared.Outcome.Outcome, declared.Outcome.the-variants.Done, declared.Outcome.the-variants.Wake, declared.Outcome.the-variants.Dropped, declared.Outcome.the-variants.Refused}
+use Rattle.console_rules.specs.{Console.createdNumber, Console.recordOf, Console.bytesOf, Console.Called, Console.emitCall}
+use Rattle.history.specs.{Ring.fresh}
+use Rattle.promise.specs.{Bytes.consumed, Bytes.Turn, Bytes.uncalled, Bytes.left, Bytes.Made, Demand2.Promise}
 
 -- "0 done, 1 to 17 refused, 20 DROPPED, 21 done with wake"; the promise shuts out any refusal but 8 and 9
 abbrev pub means : ℕ → Outcome

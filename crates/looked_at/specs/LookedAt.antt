@@ -1,23 +1,17 @@
 -- "All else below 8192 is made zero and never looked at. A consumer may write anything in bytes 4096 to 8191; no answer depends on them but through
 -- byte 4096" (document 01). Of any bytes s and t, a ring or not.
 use Prim.Native.Nat.{ℕ, _≤_, _<_}
-use mathlib.Core.Path.{_≡_}
-use mathlib.Core.Logic.{_⊎_}
-use mathlib.Core.List.{List}
-use lib.ListN.{length, getD}
-use Rattle.table_rules.specs.declared.Refusal.{Refusal}
-use Rattle.writer_rules.specs.declared.Writer.{Writer}
-use Rattle.create_rules.specs.Create.{created, afterCreate}
-use Rattle.create_rules.specs.declared.Created.the-variants.{Refused}
-use Rattle.emit_rules.specs.Emit.{emission}
-use Rattle.emit_rules.specs.declared.Label.{Label}
-use Rattle.inspect_rules.specs.Inspect.{inspected}
-use Rattle.reader_rules.specs.Attach.{attached}
-use Rattle.reader_rules.specs.Read.{readOut}
-use Rattle.reader_rules.specs.declared.Reader.{Reader}
-use Rattle.follow_rules.specs.Follow.{followed}
-use Rattle.swap_rules.specs.Swap.{refusedSwap, exchange}
-use Rattle.console_rules.specs.Console.{emitCall}
+use mathlib.Core.{Path._≡_, Logic._⊎_, List.List}
+use lib.{ListN.length, ListN.getD}
+use Rattle.table_rules.specs.{declared.Refusal.Refusal}
+use Rattle.writer_rules.specs.{declared.Writer.Writer}
+use Rattle.create_rules.specs.{Create.created, Create.afterCreate, declared.Created.the-variants.Refused}
+use Rattle.emit_rules.specs.{Emit.emission, declared.Label.Label}
+use Rattle.inspect_rules.specs.{Inspect.inspected}
+use Rattle.reader_rules.specs.{Attach.attached, Read.readOut, declared.Reader.Reader}
+use Rattle.follow_rules.specs.{Follow.followed}
+use Rattle.swap_rules.specs.{Swap.refusedSwap, Swap.exchange}
+use Rattle.console_rules.specs.{Console.emitCall}
 
 -- the bytes that count: those that the paper's table lists, with need_wake, and the data
 abbrev pub Counts : ℕ → Type 0

@@ -10,33 +10,24 @@
 --   by one that invents dropped or overwritten: `dropped`, `counts` with `inspection`.
 -- `Only2` (specs/Only2.antt) says it of all others, and `ShutOut2` of these one by one.
 use Prim.Native.Nat.{ℕ, _+_, _-_, _/_, _%_, _^_, _≤_, _<_}
-use mathlib.Core.Path.{_≡_}
-use mathlib.Core.Logic.{_⊎_, _≢_, _↔_}
-use mathlib.Core.Bool.{Bool, true, false}
-use mathlib.Core.List.{List, [], _∷_, _++_, map}
-use lib.ListN.{length, getD}
-use Rattle.table_rules.specs.declared.Refusal.{Refusal}
-use Rattle.table_rules.specs.Refusals.{paperNumber}
-use Rattle.word_rules.specs.Fields.{putAll}
-use Rattle.capacity_rules.specs.Capacity.{allowed}
-use Rattle.page_rules.specs.Page.{pageOf, opened, positions}
-use Rattle.page_rules.specs.Wake.{futexCounter, wakes}
+use mathlib.Core.{Path._≡_, Logic._⊎_, Logic._≢_, Logic._↔_, Bool.Bool, Bool.true, Bool.false, List.List, List.[], List._∷_, List._++_, List.map}
+use lib.{ListN.length, ListN.getD}
+use Rattle.table_rules.specs.{declared.Refusal.Refusal, Refusals.paperNumber}
+use Rattle.word_rules.specs.{Fields.putAll}
+use Rattle.capacity_rules.specs.{Capacity.allowed}
+use Rattle.page_rules.specs.{Page.pageOf, Page.opened, Page.positions, Wake.futexCounter, Wake.wakes}
 use Rattle.page_rules.specs.declared.Opened.the-variants as opens
-use Rattle.region_rules.specs.Region.{storeAt}
-use Rattle.event_rules.specs.Run.{joined}
-use Rattle.look_rules.specs.Live.{live}
-use Rattle.create_rules.specs.Create.{created, afterCreate}
+use Rattle.region_rules.specs.{Region.storeAt}
+use Rattle.event_rules.specs.{Run.joined}
+use Rattle.look_rules.specs.{Live.live}
+use Rattle.create_rules.specs.{Create.created, Create.afterCreate}
 use Rattle.create_rules.specs.declared.Created.the-variants as creates
-use Rattle.emit_rules.specs.declared.Outcome.{Outcome}
-use Rattle.emit_rules.specs.declared.Outcome.the-variants.{Done, Wake, Dropped, Refused}
-use Rattle.inspect_rules.specs.Inspect.{inspected}
-use Rattle.inspect_rules.specs.declared.Inspected.the-variants.{Whole}
-use Rattle.writer_rules.specs.declared.Writer.{Writer}
-use Rattle.run_rules.specs.Runs.{lastOf, firstOf, total, LongestRun}
-use Rattle.history.specs.Ring.{sequenceOf, Numbered, Ring, fresh, write}
-use Rattle.history.specs.Calls.{uses, used, droppedOf}
-use Rattle.promise.specs.Bytes.{Event, size, taken, encode, State, consumed, Turn, uncalled, Emission, Made, madeBy, afterBy, operation, made, after, answerOf, callOf, acceptedOf, raises, outcomesOf}
-use Rattle.promise.specs.Holds.{Holds}
+use Rattle.emit_rules.specs.{declared.Outcome.Outcome, declared.Outcome.the-variants.Done, declared.Outcome.the-variants.Wake, declared.Outcome.the-variants.Dropped, declared.Outcome.the-variants.Refused}
+use Rattle.inspect_rules.specs.{Inspect.inspected, declared.Inspected.the-variants.Whole}
+use Rattle.writer_rules.specs.{declared.Writer.Writer}
+use Rattle.run_rules.specs.{Runs.lastOf, Runs.firstOf, Runs.total, Runs.LongestRun}
+use Rattle.history.specs.{Ring.sequenceOf, Ring.Numbered, Ring.Ring, Ring.fresh, Ring.write, Calls.uses, Calls.used, Calls.droppedOf}
+use Rattle.promise.specs.{Bytes.Event, Bytes.size, Bytes.taken, Bytes.encode, Bytes.State, Bytes.consumed, Bytes.Turn, Bytes.uncalled, Bytes.Emission, Bytes.Made, Bytes.madeBy, Bytes.afterBy, Bytes.operation, Bytes.made, Bytes.after, Bytes.answerOf, Bytes.callOf, Bytes.acceptedOf, Bytes.raises, Bytes.outcomesOf, Holds.Holds}
 
 -- ---- each call's answer
 

@@ -1,17 +1,14 @@
 -- A ring's bytes and its writer's record that stand for a ring without bytes. Any such may be the beginning of a history: a created ring,
 -- a ring after any calls, a swapped or a salvaged one.
 use Prim.Native.Nat.{ℕ, _^_, _<_}
-use mathlib.Core.Path.{_≡_}
-use mathlib.Core.List.{List, map}
-use lib.ListN.{getD}
-use Rattle.page_rules.specs.Page.{pageOf}
-use Rattle.page_rules.specs.Sound.{Sound}
-use Rattle.event_rules.specs.Run.{joined}
-use Rattle.look_rules.specs.Live.{live}
-use Rattle.writer_rules.specs.declared.Writer.{Writer}
-use Rattle.history.specs.Ring.{Ring, write}
-use Rattle.history.specs.Holding.{Holding}
-use Rattle.promise.specs.Bytes.{Event, size, encode}
+use mathlib.Core.{Path._≡_, List.List, List.map}
+use lib.{ListN.getD}
+use Rattle.page_rules.specs.{Page.pageOf, Sound.Sound}
+use Rattle.event_rules.specs.{Run.joined}
+use Rattle.look_rules.specs.{Live.live}
+use Rattle.writer_rules.specs.{declared.Writer.Writer}
+use Rattle.history.specs.{Ring.Ring, Ring.write, Holding.Holding}
+use Rattle.promise.specs.{Bytes.Event, Bytes.size, Bytes.encode}
 
 pub record Holds (cpu capacity : ℕ) (s : List ℕ) (w : Writer) (ring : Ring Event) : Type 0 where
   pub narrow : cpu < 2 ^ 16

@@ -1,20 +1,14 @@
 -- No emission but the operation's own meets the second demand: whatever does gives, on every fresh ring and after every history, the same answers,
 -- record and bytes. And some wrong ones, by name, that don't.
 use Prim.Native.Nat.{ℕ, _+_, _^_, _<_}
-use mathlib.Core.Path.{_≡_}
-use mathlib.Core.Bool.{true, cond}
-use mathlib.Core.List.{List}
-use lib.ListN.{length, set}
-use lib.Dec.{eqb}
-use Rattle.table_rules.specs.declared.Refusal.{Refusal}
-use Rattle.word_rules.specs.Number.{put}
-use Rattle.word_rules.specs.Fields.{putAll}
-use Rattle.capacity_rules.specs.Capacity.{allowed}
-use Rattle.page_rules.specs.Page.{pageOf, positions}
-use Rattle.page_rules.specs.Wake.{futexCounter}
-use Rattle.emit_rules.specs.Emit.{refuse, dropped, emission}
-use Rattle.promise.specs.Bytes.{Turn, Emission, madeBy, afterBy, made, after}
-use Rattle.promise.specs.Demand2.{createdState, FreshBy2, Alike}
+use mathlib.Core.{Path._≡_, Bool.true, Bool.cond, List.List}
+use lib.{ListN.length, ListN.set, Dec.eqb}
+use Rattle.table_rules.specs.{declared.Refusal.Refusal}
+use Rattle.word_rules.specs.{Number.put, Fields.putAll}
+use Rattle.capacity_rules.specs.{Capacity.allowed}
+use Rattle.page_rules.specs.{Page.pageOf, Page.positions, Wake.futexCounter}
+use Rattle.emit_rules.specs.{Emit.refuse, Emit.dropped, Emit.emission}
+use Rattle.promise.specs.{Bytes.Turn, Bytes.Emission, Bytes.madeBy, Bytes.afterBy, Bytes.made, Bytes.after, Demand2.createdState, Demand2.FreshBy2, Demand2.Alike}
 
 abbrev pub Only2 : Type 0
 Only2 =

@@ -1,34 +1,26 @@
 -- "10 DAMAGED: an event met isn't well formed, or its sequence doesn't rise; with its position": the place is the first bad event's, on any ring that
 -- passes 1 to 6, whoever made it.
 use Prim.Native.Nat.{ℕ, _+_, _-_, _<_}
-use mathlib.Core.Path.{_≡_}
-use mathlib.Core.Logic.{_↔_}
-use mathlib.Core.Bool.{false}
-use mathlib.Core.List.{List, _++_}
-use lib.ListN.{length}
-use Rattle.run_rules.specs.Runs.{Rising, lastOf}
-use Rattle.table_rules.specs.declared.Refusal.the-variants.{Damaged}
-use Rattle.page_rules.specs.Page.{opened}
-use Rattle.page_rules.specs.declared.Page.{Page}
+use mathlib.Core.{Path._≡_, Logic._↔_, Bool.false, List.List, List._++_}
+use lib.{ListN.length}
+use Rattle.run_rules.specs.{Runs.Rising, Runs.lastOf}
+use Rattle.table_rules.specs.{declared.Refusal.the-variants.Damaged}
+use Rattle.page_rules.specs.{Page.opened, declared.Page.Page}
 use Rattle.page_rules.specs.declared.Opened.the-variants as opens
-use Rattle.event_rules.specs.Event.{sequence, wellFormed}
-use Rattle.event_rules.specs.Run.{joined, passable, Each}
-use Rattle.look_rules.specs.Live.{rest, live}
-use Rattle.writer_rules.specs.Writer.{wrongWriter}
-use Rattle.writer_rules.specs.declared.Writer.{Writer}
-use Rattle.emit_rules.specs.Emit.{emission}
-use Rattle.emit_rules.specs.declared.Label.{Label}
+use Rattle.event_rules.specs.{Event.sequence, Event.wellFormed, Run.joined, Run.passable, Run.Each}
+use Rattle.look_rules.specs.{Live.rest, Live.live}
+use Rattle.writer_rules.specs.{Writer.wrongWriter, declared.Writer.Writer}
+use Rattle.emit_rules.specs.{Emit.emission, declared.Label.Label}
 use Rattle.emit_rules.specs.declared.Outcome.the-variants as emits
-use Rattle.inspect_rules.specs.Inspect.{inspected}
+use Rattle.inspect_rules.specs.{Inspect.inspected}
 use Rattle.inspect_rules.specs.declared.Inspected.the-variants as inspects
-use Rattle.reader_rules.specs.Read.{readingPlace, readOut}
-use Rattle.reader_rules.specs.declared.Reader.{Reader}
+use Rattle.reader_rules.specs.{Read.readingPlace, Read.readOut, declared.Reader.Reader}
 use Rattle.reader_rules.specs.declared.Reading.the-variants as reads
 use Rattle.reader_rules.specs.declared.Attachment.the-variants as attaches
-use Rattle.follow_rules.specs.Follow.{followed}
-use Rattle.swap_rules.specs.Swap.{exchange}
+use Rattle.follow_rules.specs.{Follow.followed}
+use Rattle.swap_rules.specs.{Swap.exchange}
 use Rattle.swap_rules.specs.declared.SwapOutcome.the-variants as swaps
-use Rattle.promise.specs.Demand2.{Acceptable}
+use Rattle.promise.specs.{Demand2.Acceptable}
 
 -- well-formed events lie from tail up to a place below write_pos
 pub record UpTo (s : List ℕ) (p : Page) (events : List (List ℕ)) (at : ℕ) : Type 0 where

@@ -1,24 +1,15 @@
 -- What a swap promises, of any ring that holds together with its record. A created ring does, so does one after any calls (`Promise` ends in `holds`)
 -- and one that a swap has made (`begins`): so this is said of every swap in every history of calls and swaps on the newest ring.
 use Prim.Native.Nat.{ℕ, _+_, _-_, _%_, _^_}
-use mathlib.Core.Path.{_≡_}
-use mathlib.Core.Logic.{_≢_}
-use mathlib.Core.Bool.{cond}
-use mathlib.Core.List.{List, [], _∷_}
-use lib.ListN.{length}
-use Rattle.run_rules.specs.Runs.{LongestRun}
-use Rattle.table_rules.specs.Table.{first}
-use Rattle.table_rules.specs.declared.Refusal.{Refusal}
-use Rattle.table_rules.specs.declared.Refusal.the-variants.{Size, Generation}
-use Rattle.page_rules.specs.Page.{pageOf}
-use Rattle.page_rules.specs.Wake.{futexCounter, needWake, wakes}
-use Rattle.create_rules.specs.Create.{wrongSize}
-use Rattle.swap_rules.specs.Swap.{AfterSwap, lastGeneration, exchanging, exchange}
-use Rattle.swap_rules.specs.declared.SwapOutcome.the-variants.{Refused}
-use Rattle.history.specs.Ring.{Numbered, Ring}
-use Rattle.promise.specs.Bytes.{Event, encode, State, Turn, uncalled, made, after}
-use Rattle.promise.specs.Holds.{Holds}
-use Rattle.promise.specs.Demand2.{Promise}
+use mathlib.Core.{Path._≡_, Logic._≢_, Bool.cond, List.List, List.[], List._∷_}
+use lib.{ListN.length}
+use Rattle.run_rules.specs.{Runs.LongestRun}
+use Rattle.table_rules.specs.{Table.first, declared.Refusal.Refusal, declared.Refusal.the-variants.Size, declared.Refusal.the-variants.Generation}
+use Rattle.page_rules.specs.{Page.pageOf, Wake.futexCounter, Wake.needWake, Wake.wakes}
+use Rattle.create_rules.specs.{Create.wrongSize}
+use Rattle.swap_rules.specs.{Swap.AfterSwap, Swap.lastGeneration, Swap.exchanging, Swap.exchange, declared.SwapOutcome.the-variants.Refused}
+use Rattle.history.specs.{Ring.Numbered, Ring.Ring}
+use Rattle.promise.specs.{Bytes.Event, Bytes.encode, Bytes.State, Bytes.Turn, Bytes.uncalled, Bytes.made, Bytes.after, Holds.Holds, Demand2.Promise}
 
 -- a swap into the buffer t, and the newest ring after it with the record handed back
 abbrev pub swap : State → List ℕ → AfterSwap

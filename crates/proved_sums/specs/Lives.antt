@@ -1,19 +1,14 @@
 -- The rings that the sums tell of: what was called on them, and what their bytes show.
 use Prim.Native.Nat.{ℕ, zero, suc}
-use mathlib.Core.Path.{_≡_}
-use mathlib.Core.List.{List, [], _∷_, map}
-use lib.ListN.{length, getD}
-use Rattle.run_rules.specs.Runs.{lastOf, firstOf}
-use Rattle.page_rules.specs.Page.{pageOf}
-use Rattle.event_rules.specs.Event.{sequence}
-use Rattle.writer_rules.specs.declared.Writer.{Writer}
-use Rattle.inspect_rules.specs.Inspect.{walked, inspected}
-use Rattle.inspect_rules.specs.declared.Summary.{Summary}
-use Rattle.inspect_rules.specs.declared.Inspected.the-variants.{Whole}
-use Rattle.history.specs.Ring.{Answer}
-use Rattle.history.specs.Calls.{Call}
-use Rattle.promise.specs.Bytes.{Event, State, Turn, made, after, callOf}
-use Rattle.promise.specs.Demand2.{createdState}
+use mathlib.Core.{Path._≡_, List.List, List.[], List._∷_, List.map}
+use lib.{ListN.length, ListN.getD}
+use Rattle.run_rules.specs.{Runs.lastOf, Runs.firstOf}
+use Rattle.page_rules.specs.{Page.pageOf}
+use Rattle.event_rules.specs.{Event.sequence}
+use Rattle.writer_rules.specs.{declared.Writer.Writer}
+use Rattle.inspect_rules.specs.{Inspect.walked, Inspect.inspected, declared.Summary.Summary, declared.Inspected.the-variants.Whole}
+use Rattle.history.specs.{Ring.Answer, Calls.Call}
+use Rattle.promise.specs.{Bytes.Event, Bytes.State, Bytes.Turn, Bytes.made, Bytes.after, Bytes.callOf, Demand2.createdState}
 
 -- ---- the calls
 

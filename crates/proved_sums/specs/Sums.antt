@@ -1,24 +1,18 @@
 -- "Sums done by hand" (document 01), lines 1 to 10: one table, over the operations' definitions on bytes.
 use Prim.Native.Nat.{ℕ, _+_, _≤_}
-use mathlib.Core.Path.{_≡_}
-use mathlib.Core.List.{List, [], _∷_, _++_}
-use lib.ListN.{length, take, drop}
-use Rattle.page_rules.specs.Page.{pageOf}
-use Rattle.writer_rules.specs.declared.Writer.{Writer}
-use Rattle.create_rules.specs.Create.{afterCreate}
-use Rattle.reader_rules.specs.Reader.{missed}
-use Rattle.reader_rules.specs.Attach.{attached}
-use Rattle.reader_rules.specs.Read.{AfterRead, readOut}
-use Rattle.reader_rules.specs.declared.Reader.{Reader}
+use mathlib.Core.{Path._≡_, List.List, List.[], List._∷_, List._++_}
+use lib.{ListN.length, ListN.take, ListN.drop}
+use Rattle.page_rules.specs.{Page.pageOf}
+use Rattle.writer_rules.specs.{declared.Writer.Writer}
+use Rattle.create_rules.specs.{Create.afterCreate}
+use Rattle.reader_rules.specs.{Reader.missed, Attach.attached, Read.AfterRead, Read.readOut, declared.Reader.Reader, declared.Reading.Reading}
 use Rattle.reader_rules.specs.declared.Attachment.the-variants as attachment
-use Rattle.reader_rules.specs.declared.Reading.{Reading}
 use Rattle.reader_rules.specs.declared.Reading.the-variants as reading
-use Rattle.run_rules.specs.Runs.{EndPart}
-use Rattle.history.specs.Ring.{Done, Dropped}
-use Rattle.promise.specs.Bytes.{Event, encode, Turn}
-use Rattle.promise.specs.Swaps.{swap, swapped}
-use Rattle.comparison.specs.Comparison.{DemandBy3}
-use Rattle.proved_sums.specs.Lives.{paid, lived, answers, Shows}
+use Rattle.run_rules.specs.{Runs.EndPart}
+use Rattle.history.specs.{Ring.Done, Ring.Dropped}
+use Rattle.promise.specs.{Bytes.Event, Bytes.encode, Bytes.Turn, Swaps.swap, Swaps.swapped}
+use Rattle.comparison.specs.{Comparison.DemandBy3}
+use Rattle.proved_sums.specs.{Lives.paid, Lives.lived, Lives.answers, Lives.Shows}
 
 -- ---- "the state goes on from line to line": the payload lengths up to each line
 

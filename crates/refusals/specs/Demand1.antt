@@ -1,41 +1,27 @@
 -- Demand 1, of any bytes and any numbers: "A refusal writes nothing and returns the record as given. Each is given exactly when its condition is met at
 -- its turn" (document 01). A table holds an operation's questions in the paper's order, each with its answer, and in the last row what is left to answer.
 use Prim.Native.Nat.{ℕ, _+_, _-_, _^_}
-use mathlib.Core.Path.{_≡_}
-use mathlib.Core.Logic.{_↔_}
-use mathlib.Core.Bool.{Bool, true, not, _&&_}
-use mathlib.Core.List.{List, [], _∷_, _++_}
-use lib.ListN.{length}
-use lib.Dec.{eqb, leb, ltb}
-use Rattle.table_rules.specs.Table.{Stops}
-use Rattle.table_rules.specs.Refusals.{paperNumber, paperName}
-use Rattle.table_rules.specs.declared.Refusal.{Refusal}
-use Rattle.page_rules.specs.Page.{pageOf, tooShort, wrongMark, wrongVersion, wrongLayout, wrongLength, wrongPosition}
-use Rattle.page_rules.specs.Wake.{needWake, wakes}
-use Rattle.event_rules.specs.Event.{eventSize}
-use Rattle.event_rules.specs.Run.{passable}
-use Rattle.event_rules.specs.declared.Walk.{Walk}
+use mathlib.Core.{Path._≡_, Logic._↔_, Bool.Bool, Bool.true, Bool.not, Bool._&&_, List.List, List.[], List._∷_, List._++_}
+use lib.{ListN.length, Dec.eqb, Dec.leb, Dec.ltb}
+use Rattle.table_rules.specs.{Table.Stops, Refusals.paperNumber, Refusals.paperName, declared.Refusal.Refusal}
+use Rattle.page_rules.specs.{Page.pageOf, Page.tooShort, Page.wrongMark, Page.wrongVersion, Page.wrongLayout, Page.wrongLength, Page.wrongPosition, Wake.needWake, Wake.wakes}
+use Rattle.event_rules.specs.{Event.eventSize, Run.passable, declared.Walk.Walk}
 use Rattle.event_rules.specs.declared.Walk.the-variants as walks
-use Rattle.look_rules.specs.Live.{rest}
-use Rattle.writer_rules.specs.Writer.{wrongWriter}
-use Rattle.writer_rules.specs.declared.Writer.{Writer}
-use Rattle.create_rules.specs.Create.{wrongSize, created, afterCreate}
+use Rattle.look_rules.specs.{Live.rest}
+use Rattle.writer_rules.specs.{Writer.wrongWriter, declared.Writer.Writer}
+use Rattle.create_rules.specs.{Create.wrongSize, Create.created, Create.afterCreate}
 use Rattle.create_rules.specs.declared.Created.the-variants as creates
-use Rattle.emit_rules.specs.Emit.{tooLarge, tooFar, disagrees, walkEnd, emission}
-use Rattle.emit_rules.specs.declared.Label.{Label}
+use Rattle.emit_rules.specs.{Emit.tooLarge, Emit.tooFar, Emit.disagrees, Emit.walkEnd, Emit.emission, declared.Label.Label}
 use Rattle.emit_rules.specs.declared.Outcome.the-variants as emits
-use Rattle.inspect_rules.specs.Inspect.{surveyed, summary, damaged, inspected}
+use Rattle.inspect_rules.specs.{Inspect.surveyed, Inspect.summary, Inspect.damaged, Inspect.inspected}
 use Rattle.inspect_rules.specs.declared.Inspected.the-variants as inspects
-use Rattle.reader_rules.specs.Reader.{miscounted, wrongReader}
-use Rattle.reader_rules.specs.Attach.{attached}
-use Rattle.reader_rules.specs.Read.{readingPlace, readOut}
-use Rattle.reader_rules.specs.declared.Reader.{Reader}
+use Rattle.reader_rules.specs.{Reader.miscounted, Reader.wrongReader, Attach.attached, Read.readingPlace, Read.readOut, declared.Reader.Reader}
 use Rattle.reader_rules.specs.declared.Attachment.the-variants as attaches
 use Rattle.reader_rules.specs.declared.Reading.the-variants as reads
-use Rattle.follow_rules.specs.Follow.{followed}
-use Rattle.swap_rules.specs.Swap.{lastGeneration, countDiffers, exchange}
+use Rattle.follow_rules.specs.{Follow.followed}
+use Rattle.swap_rules.specs.{Swap.lastGeneration, Swap.countDiffers, Swap.exchange}
 use Rattle.swap_rules.specs.declared.SwapOutcome.the-variants as swaps
-use Rattle.console_rules.specs.Console.{createdNumber, inspectedNumber, recordOf, emitCall}
+use Rattle.console_rules.specs.{Console.createdNumber, Console.inspectedNumber, Console.recordOf, Console.emitCall}
 
 -- what is promised of a call: `refused` is its answer to a refusal, 10 bearing `place`; the table is handed that answer for each number; `unchanged` says
 -- that all it was lent to change is as it came

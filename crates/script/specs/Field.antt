@@ -1,9 +1,7 @@
 -- "Fields are what stands between single spaces." Definitions alone: nothing is assumed.
 use Prim.Native.Nat.{ℕ, zero, suc, _+_}
-use mathlib.Core.Bool.{Bool, true, false, cond}
-use mathlib.Core.List.{List, [], _∷_}
-use lib.Dec.{eqb}
-use lib.ListN.{length, drop}
+use mathlib.Core.{Bool.Bool, Bool.true, Bool.false, Bool.cond, List.List, List.[], List._∷_}
+use lib.{Dec.eqb, ListN.length, ListN.drop}
 
 -- what stands before the first `byte`; all, where there is none
 abbrev pub upTo : ℕ → List ℕ → List ℕ

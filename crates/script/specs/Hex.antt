@@ -1,9 +1,7 @@
 -- "Bytes are pairs of the digits 0-9a-f, or `-` for none." Definitions alone: nothing is assumed.
 use Prim.Native.Nat.{ℕ, _+_, _-_, _*_, _/_, _%_}
-use mathlib.Core.Bool.{Bool, true, false, cond}
-use mathlib.Core.List.{List, [], _∷_}
-use lib.Dec.{ltb, eqb}
-use lib.ListN.{length, getD}
+use mathlib.Core.{Bool.Bool, Bool.true, Bool.false, Bool.cond, List.List, List.[], List._∷_}
+use lib.{Dec.ltb, Dec.eqb, ListN.length, ListN.getD}
 
 -- the value of a digit: 48 to 57 are 0 to 9, 97 to 102 are a to f; 16 of any other byte
 unfoldable pub valueOf : ℕ → ℕ

@@ -1,11 +1,8 @@
 -- "Numbers are digits only, with no sign and no leading zero but `0` itself, up to 18446744073709551615." Definitions alone: nothing is assumed.
 use Prim.Native.Nat.{ℕ, _+_, _-_, _*_}
-use mathlib.Core.Bool.{Bool, false, cond}
-use mathlib.Core.List.{List, [], _∷_}
-use lib.Dec.{ltb, eqb}
-use lib.ListN.{length, getD}
-use Rattle.script.specs.declared.Parsed.{Parsed}
-use Rattle.script.specs.declared.Parsed.the-variants.{Is, Bad}
+use mathlib.Core.{Bool.Bool, Bool.false, Bool.cond, List.List, List.[], List._∷_}
+use lib.{Dec.ltb, Dec.eqb, ListN.length, ListN.getD}
+use Rattle.script.specs.{declared.Parsed.Parsed, declared.Parsed.the-variants.Is, declared.Parsed.the-variants.Bad}
 
 abbrev pub fitting : ℕ → Parsed
 fitting n = cond (ltb n 18446744073709551616) (Is n) Bad

@@ -1,10 +1,7 @@
 -- "decimal numbers without leading zeros, most significant digit first". Definitions alone: nothing is assumed.
 use Prim.Native.Nat.{ℕ, zero, suc, _+_, _-_, _*_, _/_, _%_, _≤_, _<_}
-use mathlib.Core.Path.{_≡_}
-use mathlib.Core.Bool.{Bool, true, false}
-use mathlib.Core.List.{List, [], _∷_, _++_}
-use lib.Dec.{ltb}
-use lib.ListN.{length, getD}
+use mathlib.Core.{Path._≡_, Bool.Bool, Bool.true, Bool.false, List.List, List.[], List._∷_, List._++_}
+use lib.{Dec.ltb, ListN.length, ListN.getD}
 
 -- A number below ten is one digit; any other is the digits of its quotient by ten and then its last digit. The rule for the quotient comes unapplied,
 -- so that computing an example goes only as deep as there are digits.

@@ -1,7 +1,7 @@
 -- What lines are made of. Definitions alone: nothing is assumed.
 use Prim.Native.Nat.{ℕ}
-use mathlib.Core.List.{List, [], _∷_, _++_}
-use Rattle.text.specs.Decimal.{decimal}
+use mathlib.Core.{List.List, List.[], List._∷_, List._++_}
+use Rattle.text.specs.{Decimal.decimal}
 
 -- a number and the byte that ends it: a space or a newline
 unfoldable pub numbered : ℕ → ℕ → List ℕ

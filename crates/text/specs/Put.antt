@@ -1,9 +1,7 @@
 -- Text put into a buffer. Definitions alone: nothing is assumed.
 use Prim.Native.Nat.{ℕ, _+_, _≤_}
-use mathlib.Core.Path.{_≡_}
-use mathlib.Core.List.{List}
-use lib.ListN.{length, take, drop}
-use lib.Seq.{sets}
+use mathlib.Core.{Path._≡_, List.List}
+use lib.{ListN.length, ListN.take, ListN.drop, Seq.sets}
 
 -- text, put into l from the place `at` on, leaves m; no other byte changes, and `next` is the place behind it
 pub record Put (l : List ℕ) (at : ℕ) (text m : List ℕ) (next : ℕ) : Type 0 where

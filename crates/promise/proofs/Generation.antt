@@ -10,11 +10,11 @@ use Rattle.page_rules.specs.Sound.{Sound}
 use Rattle.page_rules.specs.declared.Page.{Page}
 use Rattle.page_rules.proofs.Sound.{sound-length}
 use Rattle.history.specs.Ring.{Ring}
-use Rattle.promise.specs.Bytes.{Event, State, Turn, consumed, emitted, after}
+use Rattle.promise.specs.Bytes.{Event, State, Turn, consumed, after}
 use Rattle.promise.specs.Holds.{Holds}
 use Rattle.promise.proofs.Consumer.{elsewhere-page, consumed-elsewhere}
 use Rattle.promise.proofs.Layers.{layer-number, uncalled-number}
-use Rattle.promise.proofs.Demand2.{turn-step, same-calls}
+use Rattle.promise.proofs.Demand2.{same-calls}
 
 pub consumed-generation : (s page : List ℕ) → length page ≡ 4096 → Sound s (pageOf s) → pageOf (consumed s page) .generation ≡ pageOf s .generation
 consumed-generation s page whole h =
@@ -22,13 +22,6 @@ consumed-generation s page whole h =
     (elsewhere-page s (consumed s page) (consumed-elsewhere s page whole (omega (arith, sound-length s (pageOf s) h))))
 
 module _ (cpu capacity : ℕ) (s : State) (ring : Ring Event) (h : Holds cpu capacity (s .ring) (s .writer) ring) where
-  pub emitted-generation : (t : Turn) → pageOf (emitted s t .ring) .generation ≡ pageOf (s .ring) .generation
-  unfolding pageOf
-  emitted-generation t =
-      ap (λ (r : List ℕ). number r 32 8) (turn-step cpu capacity s ring t h .leaves)
-      ∙ layer-number _ _ _ _ _ _ _ 32 8 tt (omega arith)
-      ∙ consumed-generation (s .ring) (t .page) (t .whole) (h .sound)
-
   -- so it stands through a history, whatever the consumer writes
   pub generation-stays : (turns : List Turn) → pageOf (after s turns .ring) .generation ≡ pageOf (s .ring) .generation
   unfolding pageOf

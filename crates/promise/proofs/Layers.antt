@@ -11,6 +11,7 @@ use lib.ListN.{length, take, getD, set, replicate, length-set}
 use lib.Seq.{getD-set-same, getD-set-other, set-getD, getD-take, ext-getD}
 use lib.Dec.{T, eqb, lit<}
 use borrow.Author.Tests.{eqb-true, eqb-false}
+use Rattle.table_rules.proofs.Laws.{cond-both}
 use Rattle.table_rules.proofs.Tests.{either, le-or-lt}
 use Rattle.word_rules.specs.Number.{number, byteOf, put}
 use Rattle.word_rules.specs.Fields.{Field, putAll, clearOf}
@@ -19,7 +20,7 @@ use Rattle.word_rules.proofs.Writing.{length-put, put-other, put-byte}
 use Rattle.word_rules.proofs.Fields.{length-all, beside, within}
 use Rattle.page_rules.specs.Page.{pageOf, positions}
 use Rattle.page_rules.specs.Fresh.{firstPage, blank}
-use Rattle.page_rules.specs.Wake.{futexCounter}
+use Rattle.page_rules.specs.Wake.{futexCounter, needWake, wakes, raised, notified}
 use Rattle.region_rules.specs.Region.{place, storeAt}
 use Rattle.region_rules.proofs.Storing.{store-length, store-append, store-below, store-number}
 use Rattle.promise.specs.Bytes.{Turn, consumed, uncalled}
@@ -81,6 +82,11 @@ unfolding putAll
 all-small s [] i small = small
 all-small s (f ∷ fs) i small =
     all-small (put s (f .offset) (f .size) (f .content)) fs i (put-small s (f .offset) (f .size) (f .content) i small)
+
+pub notified-small : (s : List ℕ) (i : ℕ) → getD s i 0 < 256 → getD (notified s) i 0 < 256
+unfolding notified raised
+notified-small s i small =
+    cond-both (λ (r q : List ℕ). getD r i 0 < 256) (wakes (needWake s)) {z = s} {w = s} (put-small s 128 4 _ i small) small
 
 pub blank-small : (cpu capacity generation i : ℕ) → getD (blank cpu capacity generation) i 0 < 256
 unfolding blank

@@ -5,7 +5,7 @@ use mathlib.Core.Path.{_≡_, refl, sym, ap, ap₂, _∙_, subst}
 use mathlib.Core.Logic.{inl, inr, _≢_}
 use mathlib.Core.Bool.{Bool, true, false, cond}
 use mathlib.Core.List.{List, [], _++_, map, append-nil}
-use lib.ListN.{length, drop, getD}
+use lib.ListN.{length, drop}
 use Rattle.table_rules.specs.declared.Refusal.the-variants.{Spent, Far}
 use Rattle.word_rules.specs.Number.{put}
 use Rattle.word_rules.specs.Fields.{putAll}
@@ -39,7 +39,7 @@ use Rattle.promise.specs.Holds.{Holds}
 use Rattle.promise.specs.Demand2.{Acceptable, Given}
 use Rattle.promise.proofs.Encoding.{joined-one, drop-older, walk-older}
 use Rattle.emit_rules.proofs.Stored.{stored-cpu, stored-capacity, stored-write, stored-tail, stored-sound, stored-live}
-use Rattle.promise.proofs.Layers.{Bytewise, layer, layer-none, put-small, all-small, put-own, number-small}
+use Rattle.promise.proofs.Layers.{Bytewise, layer, layer-none, notified-small, all-small, put-own, number-small}
 use Rattle.promise.proofs.Holds.{holds-counted, holds-whole}
 
 -- the bytes that a call adds to the data
@@ -212,7 +212,7 @@ module _ (cpu capacity : ℕ) (s : List ℕ) (w : Writer) (ring : Ring Event) (e
           holds = record {
             narrow = h .narrow;
             sound = stored-sound s p (h .sound) event there far-enough onward not-past fits;
-            bytewise = λ i low. subst (λ (r : List ℕ). getD r i 0 < 256) (sym told-on) (put-small moved 128 4 _ i (moved-small i low));
+            bytewise = λ i low. notified-small moved i (moved-small i low);
             named = stored-cpu s p (h .sound) event there ∙ h .named;
             sized = stored-capacity s p (h .sound) event there ∙ h .sized;
             tail-is = stored-tail s p (h .sound) event there far-enough onward not-past fits;

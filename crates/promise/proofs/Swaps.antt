@@ -10,14 +10,13 @@ use borrow.Author.Tests.{eqb-true, eqb-false}
 use Rattle.table_rules.specs.Table.{first}
 use Rattle.table_rules.specs.declared.Refusal.{Refusal}
 use Rattle.table_rules.specs.declared.Refusal.the-variants.{Size, Generation}
-use Rattle.table_rules.proofs.Laws.{cond-both}
 use Rattle.capacity_rules.specs.Capacity.{allowed}
 use Rattle.capacity_rules.proofs.Laws.{allowed-range}
 use Rattle.word_rules.specs.Number.{put}
 use Rattle.page_rules.specs.Page.{pageOf, positions}
 use Rattle.page_rules.specs.Fresh.{blank}
 use Rattle.page_rules.specs.Sound.{Sound}
-use Rattle.page_rules.specs.Wake.{needWake, wakes, raised, notified}
+use Rattle.page_rules.specs.Wake.{needWake, wakes}
 use Rattle.page_rules.specs.declared.Page.{Page}
 use Rattle.region_rules.specs.Region.{storeAt}
 use Rattle.region_rules.proofs.Storing.{store-below}
@@ -45,7 +44,7 @@ use Rattle.promise.specs.Holds.{Holds}
 use Rattle.promise.specs.Swaps.{swap, swapped, keeping, SwapPromise, Swaps}
 use Rattle.promise.proofs.Encoding.{encode-lengths, encode-latest, joined-length}
 use Rattle.promise.proofs.Holds.{holds-counted, walked-kept, holds-surveyed}
-use Rattle.promise.proofs.Layers.{Bytewise, put-small, all-small, blank-small, number-small}
+use Rattle.promise.proofs.Layers.{Bytewise, put-small, all-small, notified-small, blank-small, number-small}
 use Rattle.promise.proofs.Demand2.{demand2}
 
 module _ (cpu before : ℕ) (s : State) (ring : Ring Event) (h : Holds cpu before (s .ring) (s .writer) ring) (t : List ℕ) where
@@ -97,12 +96,10 @@ module _ (cpu before : ℕ) (s : State) (ring : Ring Event) (h : Holds cpu befor
 
     -- the old one's are as they were, but for generation and counter
     old-small : Bytewise (swap s t .old)
-    unfolding carriedOver retired notified raised
+    unfolding carriedOver retired
     old-small i low =
-        let older : List ℕ = put (s .ring) 32 8 (p .generation + 1) in
-        let small : getD older i 0 < 256 = put-small (s .ring) 32 8 (p .generation + 1) i (h .bytewise i low) in
         subst (λ (r : AfterSwap). getD (r .old) i 0 < 256) (sym done)
-        (cond-both (λ (r q : List ℕ). getD r i 0 < 256) (wakes (needWake older)) {z = older} {w = older} (put-small older 128 4 _ i small) small)
+        (notified-small (put (s .ring) 32 8 (p .generation + 1)) i (put-small (s .ring) 32 8 (p .generation + 1) i (h .bytewise i low)))
 
     pub swapped-holds : Holds cpu capacity (swap s t .new) (swap s t .answer .writer) (idealSwap size capacity ring)
     swapped-holds =

@@ -17,6 +17,7 @@ use Rattle.history.proofs.Reading.{from-lapped}
 use Rattle.history.proofs.Emptying.{past, finished, unread-past, following-past, attach-follows}
 use Rattle.promise.specs.Bytes.{Event, size, encode, consumed}
 use Rattle.promise.specs.Holds.{Holds}
+use Rattle.promise.proofs.Opened.{sound-of}
 use Rattle.promise.proofs.Encoding.{encode-length}
 use Rattle.promise.proofs.Consumer.{consumed-holds}
 use Rattle.promise.proofs.Generation.{consumed-generation}
@@ -41,7 +42,7 @@ module _ (cpu capacity : ℕ) (s : List ℕ) (w : Writer) (ring : Ring Event) (h
   empties [] r f e =
       λ consumer out.
       read-none cpu capacity (consumed s (consumer .page)) w ring (still consumer) r f generation out e
-      (consumed-generation s (consumer .page) (consumer .whole) (h .sound))
+      (consumed-generation s (consumer .page) (consumer .whole) (sound-of h))
   empties (x ∷ u) r f e =
       let more : r .handed + 1 + length u ≡ r .handed + suc (length u) = omega arith in
       let end : finished size ring (past size ring r x) u ≡ finished size ring r (x ∷ u) =

@@ -11,6 +11,7 @@ use Rattle.history.proofs.Ideal.{emit}
 use Rattle.history.proofs.IdealServed.{start, idealEmission}
 use Rattle.promise.specs.Bytes.{Event, size, encode, consumed, made}
 use Rattle.promise.specs.Holds.{Holds}
+use Rattle.promise.proofs.Opened.{sound-of}
 use Rattle.promise.specs.Demand2.{NoneRefused}
 use Rattle.promise.proofs.Encoding.{encode-length}
 use Rattle.promise.proofs.Consumer.{consumed-holds}
@@ -84,7 +85,7 @@ module _ (buffer : List ℕ) (long : length buffer ≡ 8192 + 256) (any : Reader
       let handed = meets 0 256 s (stands .state .writer) ring (follows .holds) any .1 .1 consumer out
       (enough (length (encode 0 kept)) 32 (omega (arith, encode-length 0 kept))) in
       let none = reads-empty 0 256 t (stands .state .writer) ring h reader out (omega (arith, follows .holds .write-is, h .tail-is))
-      (omega (arith, follows .holds .write-is)) (omega arith) (consumed-generation s (consumer .page) (consumer .whole) (follows .holds .sound)) in
+      (omega (arith, follows .holds .write-is)) (omega arith) (consumed-generation s (consumer .page) (consumer .whole) (sound-of (follows .holds))) in
       omega (arith, ap count (sym handed ∙ none))
 
 pub shut-out3 : ShutOut3

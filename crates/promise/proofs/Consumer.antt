@@ -8,13 +8,14 @@ use lib.Seq.{length-take-le, getD-take, getD-drop, getD-append-add}
 use Rattle.word_rules.specs.Number.{number}
 use Rattle.word_rules.proofs.Reading.{number-same, number-one}
 use Rattle.page_rules.specs.Page.{pageOf}
-use Rattle.page_rules.proofs.Sound.{sound-length}
+use Rattle.page_rules.proofs.Sound.{opens-sound, sound-length}
 use Rattle.page_rules.proofs.Same.{page-same, sound-same}
 use Rattle.look_rules.proofs.Laws.{live-same}
 use Rattle.writer_rules.specs.declared.Writer.{Writer}
 use Rattle.history.specs.Ring.{Ring}
 use Rattle.promise.specs.Bytes.{Event, consumed}
 use Rattle.promise.specs.Holds.{Holds}
+use Rattle.promise.proofs.Opened.{sound-of}
 
 -- two rings that agree outside bytes 4096 to 8191
 pub record Elsewhere (s t : List ℕ) : Type 0 where
@@ -33,7 +34,7 @@ module _ (s t : List ℕ) (same : Elsewhere s t) where
   elsewhere-holds : (cpu capacity : ℕ) (w : Writer) (ring : Ring Event) → Holds cpu capacity s w ring → Holds cpu capacity t w ring
   elsewhere-holds cpu capacity w ring h = record {
     narrow = h .narrow;
-    sound = rw elsewhere-page (sound-same s t (same .long) (λ i l. same .below i (omega arith)) (pageOf s) (h .sound));
+    opens = opens-sound _ _ (rw elsewhere-page (sound-same s t (same .long) (λ i l. same .below i (omega arith)) (pageOf s) (sound-of h)));
     bytewise = λ i low. omega (arith, same .below i low, h .bytewise i low);
     named = rw elsewhere-page (h .named);
     sized = rw elsewhere-page (h .sized);
@@ -82,4 +83,4 @@ module _ (s page : List ℕ) (whole : length page ≡ 4096) (long : 8192 ≤ len
 pub consumed-holds : (cpu capacity : ℕ) (s page : List ℕ) (w : Writer) (ring : Ring Event) → length page ≡ 4096
     → Holds cpu capacity s w ring → Holds cpu capacity (consumed s page) w ring
 consumed-holds cpu capacity s page w ring whole h =
-    elsewhere-holds s (consumed s page) (consumed-elsewhere s page whole (omega (arith, sound-length s (pageOf s) (h .sound)))) cpu capacity w ring h
+    elsewhere-holds s (consumed s page) (consumed-elsewhere s page whole (omega (arith, sound-length s (pageOf s) (sound-of h)))) cpu capacity w ring h

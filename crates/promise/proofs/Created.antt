@@ -7,10 +7,11 @@ use mathlib.Core.List.{List, [], map}
 use lib.ListN.{length}
 use Rattle.capacity_rules.specs.Capacity.{allowed}
 use Rattle.page_rules.specs.Page.{pageOf}
-use Rattle.page_rules.specs.Sound.{Sound}
+use Rattle.page_rules.proofs.Facts.{Sound}
 use Rattle.page_rules.specs.Fresh.{blank}
 use Rattle.page_rules.specs.declared.Page.{Page}
 use Rattle.page_rules.proofs.Fresh.{blank-sound}
+use Rattle.page_rules.proofs.Sound.{opens-sound}
 use Rattle.region_rules.specs.Region.{bytesAt}
 use Rattle.event_rules.specs.Run.{joined}
 use Rattle.look_rules.specs.Live.{rest, live}
@@ -45,7 +46,7 @@ module _ (cpu capacity : ℕ) (narrow : cpu < 2 ^ 16) (fit : allowed capacity �
   pub blank-holds : Holds cpu capacity (blank cpu capacity 1) zeros fresh
   blank-holds = record {
     narrow = narrow;
-    sound = subst (Sound clean) says blank-opens;
+    opens = opens-sound _ _ (subst (Sound clean) says blank-opens);
     bytewise = λ i low. blank-small cpu capacity 1 i;
     named = sym (ap (λ (p : Page). p .«cpu_id») says);
     sized = sym (ap (λ (p : Page). p .capacity) says);

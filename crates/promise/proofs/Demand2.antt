@@ -18,6 +18,7 @@ use Rattle.history.proofs.Ideal.{after as afterCalls}
 use Rattle.history.proofs.Demand2.{one2, demand2 as abstract2}
 use Rattle.promise.specs.Bytes.{Event, size, taken, encode, State, Turn, consumed, uncalled, emitted, left, Made, madeBy, made, afterBy, after, answerOf, callOf, acceptedOf, raises, outcomesOf}
 use Rattle.promise.specs.Holds.{Holds}
+use Rattle.promise.proofs.Opened.{sound-of}
 use Rattle.promise.specs.Demand2.{waiting, Exact, shown, Promise, Demand2, Undisturbed2}
 use Rattle.promise.proofs.Encoding.{encode-lengths, joined-length, joined-both}
 use Rattle.promise.proofs.Given.{given-exactly}
@@ -40,7 +41,7 @@ module _ (cpu capacity : ℕ) where
   unfolding pageOf
   turn-step s ring t h =
       subst (λ (b : Bool). Stepped cpu capacity (consumed (s .ring) (t .page)) b ring (t .event) (emitted s t) (emit size capacity ring (t .event)))
-      (ap wakes (consumed-wake (s .ring) (t .page) (t .whole) (omega (arith, sound-length (s .ring) (pageOf (s .ring)) (h .sound)))))
+      (ap wakes (consumed-wake (s .ring) (t .page) (t .whole) (omega (arith, sound-length (s .ring) (pageOf (s .ring)) (sound-of h)))))
       (step cpu capacity (consumed (s .ring) (t .page)) (s .writer) ring (t .event)
       (consumed-holds cpu capacity (s .ring) (t .page) (s .writer) ring (t .whole) h))
 
@@ -92,7 +93,7 @@ module _ (cpu capacity : ℕ) where
             (joined (map (encode cpu) new)) (joined (map (encode cpu) (acceptedOf later)))
             (pageOf (emitted s t .ring) .«write_pos») (pageOf (emitted s t .ring) .«tail_pos») (raises (emitted s t .answer .outcome))
             (pageOf (end .ring) .«write_pos») (pageOf (end .ring) .«tail_pos») (total raises (outcomesOf later))
-            (omega (arith, sound-length now (pageOf now) (consumed-holds cpu capacity (s .ring) (t .page) (s .writer) ring (t .whole) h .sound)))
+            (omega (arith, sound-length now (pageOf now) (sound-of (consumed-holds cpu capacity (s .ring) (t .page) (s .writer) ring (t .whole) h))))
             behind (emitted s t .ring) (end .ring) (a .leaves) (rest .2)
             ∙ ap (λ (bytes : List ℕ). layer capacity (write size ring) (uncalled now ts) bytes
             (pageOf (end .ring) .«write_pos») (pageOf (end .ring) .«tail_pos»)
@@ -171,7 +172,7 @@ undisturbed2 cpu capacity beginning without calls end p page whole =
     let w : ℕ = pageOf (end .ring) .«write_pos» in
     let t : ℕ = pageOf (end .ring) .«tail_pos» in
     let n : ℕ = futexCounter without + total raises (outcomesOf calls) in
-    let long : 8192 ≤ length (end .ring) = omega (arith, sound-length (end .ring) (pageOf (end .ring)) (p .holds .sound)) in
+    let long : 8192 ≤ length (end .ring) = omega (arith, sound-length (end .ring) (pageOf (end .ring)) (sound-of (p .holds))) in
     let enough : 8192 ≤ length without =
     omega (arith, ap length (p .ring), layer-length capacity (write size beginning) without events w t n) in
     let same = elsewhere-number (end .ring) (consumed (end .ring) page) (consumed-elsewhere (end .ring) page whole long) in

@@ -6,7 +6,8 @@ use mathlib.Core.List.{List, [], _∷_, _++_, map}
 use lib.ListN.{length, drop, length-map}
 use lib.Seq.{drop-at}
 use Rattle.event_rules.specs.Event.{sequence}
-use Rattle.event_rules.specs.Run.{joined, Each, Whole}
+use Rattle.event_rules.specs.Run.{joined, Each}
+use Rattle.event_rules.proofs.Facts.{Whole}
 use Rattle.event_rules.specs.Walk.{walkFrom}
 use Rattle.event_rules.specs.declared.Walk.the-variants.{Room}
 use Rattle.event_rules.proofs.Made.{made-length, made-says}

@@ -6,12 +6,13 @@ use mathlib.Core.List.{List}
 use lib.ListN.{length}
 use Rattle.word_rules.specs.Number.{number}
 use Rattle.page_rules.specs.Page.{pageOf}
-use Rattle.page_rules.specs.Sound.{Sound}
+use Rattle.page_rules.proofs.Facts.{Sound}
 use Rattle.page_rules.specs.declared.Page.{Page}
 use Rattle.page_rules.proofs.Sound.{sound-length}
 use Rattle.history.specs.Ring.{Ring}
 use Rattle.promise.specs.Bytes.{Event, State, Turn, consumed, after}
 use Rattle.promise.specs.Holds.{Holds}
+use Rattle.promise.proofs.Opened.{sound-of}
 use Rattle.promise.proofs.Consumer.{elsewhere-page, consumed-elsewhere}
 use Rattle.promise.proofs.Layers.{layer-number, uncalled-number}
 use Rattle.promise.proofs.Demand2.{same-calls}
@@ -28,4 +29,4 @@ module _ (cpu capacity : ℕ) (s : State) (ring : Ring Event) (h : Holds cpu cap
   generation-stays turns =
       ap (λ (r : List ℕ). number r 32 8) (same-calls cpu capacity turns s ring h .2)
       ∙ layer-number _ _ _ _ _ _ _ 32 8 tt (omega arith)
-      ∙ uncalled-number turns (s .ring) (omega (arith, sound-length (s .ring) (pageOf (s .ring)) (h .sound))) 32 8 (omega arith)
+      ∙ uncalled-number turns (s .ring) (omega (arith, sound-length (s .ring) (pageOf (s .ring)) (sound-of h))) 32 8 (omega arith)

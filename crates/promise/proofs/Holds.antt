@@ -10,9 +10,8 @@ use Rattle.capacity_rules.proofs.Laws.{allowed-range}
 use Rattle.page_rules.specs.Page.{pageOf, opened}
 use Rattle.page_rules.specs.declared.Page.{Page}
 use Rattle.page_rules.specs.declared.Opened.the-variants as opens
-use Rattle.page_rules.proofs.Sound.{opens-sound}
 use Rattle.event_rules.specs.Event.{sequence}
-use Rattle.event_rules.specs.Run.{Whole}
+use Rattle.event_rules.proofs.Facts.{Whole}
 use Rattle.writer_rules.specs.Writer.{wrongWriter}
 use Rattle.writer_rules.specs.declared.Writer.{Writer}
 use Rattle.writer_rules.proofs.Laws.{not-wrong}
@@ -24,14 +23,15 @@ use Rattle.inspect_rules.proofs.Answers.{inspected-whole}
 use Rattle.history.specs.Ring.{sequenceOf, Ring}
 use Rattle.promise.specs.Bytes.{Event, encode}
 use Rattle.promise.specs.Holds.{Holds}
+use Rattle.promise.proofs.Opened.{sound-of}
 use Rattle.promise.proofs.Encoding.{encode-whole, encode-first}
 
 module _ (cpu capacity : ℕ) (s : List ℕ) (w : Writer) (ring : Ring Event) (h : Holds cpu capacity s w ring) where
   pub holds-range : (256 ≤ capacity) × (capacity ≤ 1048576)
-  holds-range = let r = allowed-range (pageOf s .capacity) (h .sound .fit) in (omega (arith, r .0, h .sized), omega (arith, r .1, h .sized))
+  holds-range = let r = allowed-range (pageOf s .capacity) (sound-of h .fit) in (omega (arith, r .0, h .sized), omega (arith, r .1, h .sized))
 
   pub holds-opened : opened s ≡ opens.Page (pageOf s)
-  holds-opened = opens-sound s (pageOf s) (h .sound)
+  holds-opened = h .opens
 
   -- refusal 7 doesn't meet the record
   pub holds-counted : wrongWriter w ≡ false
@@ -54,7 +54,7 @@ module _ (cpu capacity : ℕ) (s : List ℕ) (w : Writer) (ring : Ring Event) (h
   whole = subst (λ (n : ℕ). Whole n 0 events) (sym (h .named)) (holds-whole .0)
 
   pub walked-kept : walked s (pageOf s) ≡ map (encode cpu) (ring .kept)
-  walked-kept = walked-all s (pageOf s) (h .sound .order) events (h .bytes-are) whole
+  walked-kept = walked-all s (pageOf s) (sound-of h .order) events (h .bytes-are) whole
 
   pub holds-surveyed : surveyed s (pageOf s)
       ≡ record { stop = pageOf s .«write_pos»; count = length (ring .kept); first = firstOf sequenceOf (ring .kept); last = lastOf sequenceOf 0 (ring .kept) }
@@ -63,10 +63,10 @@ module _ (cpu capacity : ℕ) (s : List ℕ) (w : Writer) (ring : Ring Event) (h
       encode-first cpu (h .narrow) (ring .kept) (omega (arith, h .holding .fits, holds-range)) (h .holding .rising)
       (omega (arith, h .holding .known, h .holding .spendable)) in
       let count : length events ≡ length (ring .kept) = length-map (ring .kept) (encode cpu) in
-      survey-all s (pageOf s) (h .sound .order) events (h .bytes-are) whole
+      survey-all s (pageOf s) (sound-of h .order) events (h .bytes-are) whole
       ∙ (λ i. record { stop = pageOf s .«write_pos»; count = count i; first = first i; last = holds-whole .1 i })
 
   pub holds-inspected : inspected s ≡ answers.Whole (record { count = length (ring .kept); first = firstOf sequenceOf (ring .kept); last = lastOf sequenceOf 0 (ring .kept) })
   holds-inspected =
-      inspected-whole s (pageOf s) (h .sound) (ap (λ (v : Survey). v .stop) holds-surveyed)
+      inspected-whole s (pageOf s) (sound-of h) (ap (λ (v : Survey). v .stop) holds-surveyed)
       ∙ ap (λ (v : Survey). answers.Whole (summary v)) holds-surveyed

@@ -14,7 +14,8 @@ use borrow.Author.Tests.{eqb-true, eqb-false}
 use Rattle.table_rules.proofs.Laws.{cond-both}
 use Rattle.table_rules.proofs.Tests.{either, le-or-lt}
 use Rattle.word_rules.specs.Number.{number, byteOf, put}
-use Rattle.word_rules.specs.Fields.{Field, putAll, clearOf}
+use Rattle.word_rules.specs.Fields.{Field, putAll}
+use Rattle.word_rules.proofs.Facts.{clearOf}
 use Rattle.word_rules.proofs.Reading.{number-byte, number-bound, number-take, number-zeros, number-one}
 use Rattle.word_rules.proofs.Writing.{length-put, put-other, put-byte}
 use Rattle.word_rules.proofs.Fields.{length-all, beside, within}

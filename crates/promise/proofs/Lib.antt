@@ -1,3 +1,4 @@
+pub mod Opened
 pub mod Encoding
 pub mod Consumer
 pub mod Layers

@@ -21,6 +21,7 @@ use Rattle.history.proofs.Reading.{following-splits}
 use Rattle.history.proofs.Emptying.{past, finished}
 use Rattle.promise.specs.Bytes.{Event, size, encode}
 use Rattle.promise.specs.Holds.{Holds}
+use Rattle.promise.proofs.Opened.{sound-of}
 use Rattle.promise.proofs.Encoding.{encode-length}
 use Rattle.promise.proofs.Reading.{reads-empty, reads-event}
 
@@ -31,7 +32,7 @@ recordOf generation r = record { «read_pos» = r .read-pos; last = r .last; han
 pub attaches : (cpu capacity : ℕ) (s : List ℕ) (w : Writer) (ring : Ring Event) → Holds cpu capacity s w ring → (any : Reader)
     → attached s any ≡ record { answer = attachment.Done; reader = recordOf (pageOf s .generation) (attachAt ring) }
 attaches cpu capacity s w ring h any =
-    attach-done s any (pageOf s) (h .sound)
+    attach-done s any (pageOf s) (sound-of h)
     ∙ (λ i. record { answer = attachment.Done; reader = record { «read_pos» = h .tail-is i; last = 0; handed = 0; generation = pageOf s .generation } })
 
 module _ (cpu capacity : ℕ) (s : List ℕ) (w : Writer) (ring : Ring Event) (h : Holds cpu capacity s w ring)

@@ -8,15 +8,14 @@ use mathlib.Core.List.{List, [], _∷_, _++_}
 use lib.ListN.{length, drop, length-append}
 use lib.Seq.{drop-append-seam}
 use lib.Dec.{eqb, ltb}
-use borrow.Author.Tests.{eqb-true, eqb-false, not-true}
+use borrow.Author.Tests.{eqb-true, eqb-false}
 use Rattle.run_rules.specs.Runs.{Rising, lastOf}
 use Rattle.table_rules.specs.Table.{first, Stops}
-use Rattle.table_rules.specs.declared.Refusal.{Refusal}
 use Rattle.table_rules.specs.declared.Refusal.the-variants as refusal
 use Rattle.table_rules.proofs.Laws.{stops, stopped, first-map}
 use Rattle.table_rules.proofs.Tests.{either, le-or-lt}
 use Rattle.page_rules.specs.Page.{opened}
-use Rattle.page_rules.specs.Sound.{Sound}
+use Rattle.page_rules.proofs.Facts.{Sound}
 use Rattle.page_rules.specs.declared.Page.{Page}
 use Rattle.page_rules.specs.declared.Opened.the-variants as opens
 use Rattle.page_rules.proofs.Sound.{sound}
@@ -32,7 +31,6 @@ use Rattle.look_rules.specs.Live.{rest, live}
 use Rattle.look_rules.proofs.Laws.{rest-length, live-length, rest-drop}
 use Rattle.inspect_rules.specs.Inspect.{walked, surveyed, damaged, inspectionRow, inspectedOn, inspected}
 use Rattle.inspect_rules.specs.declared.Inspected.the-variants as inspects
-use Rattle.inspect_rules.proofs.Surveys.{stop-within}
 use Rattle.inspect_rules.proofs.Answers.{inspected-sound, inspected-whole, inspected-damaged}
 use Rattle.writer_rules.specs.Writer.{wrongWriter}
 use Rattle.writer_rules.specs.declared.Writer.{Writer}
@@ -57,7 +55,7 @@ use Rattle.swap_rules.specs.Swap.{refuse as swapRefuse}
 use Rattle.swap_rules.specs.declared.SwapOutcome.the-variants as swaps
 use Rattle.swap_rules.proofs.Cases as swapCases
 use Rattle.promise.specs.Demand2.{Acceptable}
-use Rattle.promise.specs.Places.{UpTo, PlaceOf, Places}
+use Rattle.promise.specs.Places.{UpTo, Places}
 
 -- two constructors are never equal
 differ : {A : Type 0} → _≡_ {A = ℕ} 0 1 → A

@@ -26,6 +26,7 @@ use Rattle.history.specs.Ring.{Numbered, Ring, bytes, write}
 use Rattle.run_rules.proofs.Runs.{total-append}
 use Rattle.promise.specs.Bytes.{Event, size, encode}
 use Rattle.promise.specs.Holds.{Holds}
+use Rattle.promise.proofs.Opened.{sound-of}
 use Rattle.promise.proofs.Encoding.{map-append, encode-length, encode-sequence, joined-length}
 use Rattle.promise.proofs.Holds.{holds-range, holds-whole}
 
@@ -38,7 +39,7 @@ module _ (cpu capacity : ℕ) (s : List ℕ) (w : Writer) (ring : Ring Event) (h
       → reader .handed ≤ reader .last → p .generation ≡ reader .generation
       → readOut s reader out ≡ record { answered = record { answer = reading.Empty; reader = movedTo (write size ring) reader }; out = out }
   reads-empty reader out end behind counted same =
-      read-empty s reader out p (h .sound)
+      read-empty s reader out p (sound-of h)
       (record { counted = counted; behind = omega (arith, behind, h .write-is) }) (end ∙ sym (h .write-is)) same
       ∙ ap (λ (k : ℕ). record { answered = record { answer = reading.Empty; reader = movedTo k reader }; out = out }) end
 
@@ -105,7 +106,7 @@ module _ (cpu capacity : ℕ) (s : List ℕ) (w : Writer) (ring : Ring Event) (h
           let room : eventSize (rest s p (readingPlace p reader)) ≤ length out = omega (arith, long, ap (λ (k : ℕ). eventSize (rest s p k)) here, size-is) in
           let front-is : take (eventSize (rest s p at)) (rest s p at) ≡ encode cpu x =
           ap (λ (bs : List ℕ). take (eventSize bs) bs) rest-is ∙ take-front cpu (encode cpu x) whole (joined (map (encode cpu) more)) in
-          read-event s reader out p (h .sound)
+          read-event s reader out p (sound-of h)
           (record { counted = counted; behind = omega (arith, behind, h .write-is) })
           (omega (arith, here, h .write-is, sizes)) well above-it room
           ∙ ap (λ (k : ℕ). handedOut reader out k (rest s p k)) here

@@ -31,6 +31,7 @@ use Rattle.history.proofs.Ideal.{emit}
 use Rattle.history.proofs.Ideal.{after as afterCalls}
 use Rattle.promise.specs.Bytes.{Event, size, encode, State, Turn, consumed, uncalled, Emission, madeBy, afterBy, after, emitted, called, raises}
 use Rattle.promise.specs.Holds.{Holds}
+use Rattle.promise.proofs.Opened.{sound-of}
 use Rattle.promise.specs.Demand2.{Given, waiting, createdState, Promise, FreshBy2}
 use Rattle.promise.specs.Only2.{refusingEmission, dropping, silent, moving, storingFirst, inventing, unraising, scribbling, ShutOut2}
 use Rattle.promise.proofs.Encoding.{encode-length}
@@ -109,7 +110,7 @@ module _ (buffer : List ℕ) (long : length buffer ≡ 8192 + 256) (page : List 
   one = after begun (first ∷ [])
 
   one-long : 8448 ≤ length (one .ring)
-  one-long = sound-length (one .ring) (pageOf (one .ring)) (holds (first ∷ []) .sound)
+  one-long = sound-length (one .ring) (pageOf (one .ring)) (sound-of (holds (first ∷ [])))
 
   unraising-shut : getD page 0 0 ≡ 1 → FreshBy2 unraising → ⊥
   unfolding madeBy afterBy uncalled wakes
@@ -130,7 +131,7 @@ module _ (buffer : List ℕ) (long : length buffer ≡ 8192 + 256) (page : List 
   -- byte 192 is a created ring's still
   one-zero : number (one .ring) 192 1 ≡ 0
   one-zero =
-      let paged = sound-length (begun .ring) (pageOf (begun .ring)) (created-holds 0 256 (omega arith) fit buffer long .sound) in
+      let paged = sound-length (begun .ring) (pageOf (begun .ring)) (sound-of (created-holds 0 256 (omega arith) fit buffer long)) in
       ap (λ (s : List ℕ). number s 192 1) (fresh2 0 256 (omega arith) fit buffer long (first ∷ []) .1 .ring)
       ∙ layer-number _ _ _ _ _ _ _ 192 1 tt (omega arith)
       ∙ uncalled-number (first ∷ []) (begun .ring) (omega arith) 192 1 (omega arith)

@@ -13,6 +13,7 @@ use Rattle.word_rules.proofs.Fields.{beside}
 use Rattle.page_rules.specs.Page.{pageOf, positions}
 use Rattle.page_rules.specs.Wake.{futexCounter, needWake, wakes, raised, notified}
 use Rattle.page_rules.specs.declared.Page.{Page}
+use Rattle.page_rules.proofs.Sound.{opens-sound}
 use Rattle.region_rules.specs.Region.{storeAt}
 use Rattle.region_rules.proofs.Storing.{store-below, store-number}
 use Rattle.event_rules.specs.Event.{eventBytes}
@@ -36,6 +37,7 @@ use Rattle.history.proofs.Emission.{emit-cases, passed-counted, storing-write}
 use Rattle.history.proofs.Demand2.{one2}
 use Rattle.promise.specs.Bytes.{Event, size, encode, labelOf, answerOf, raises}
 use Rattle.promise.specs.Holds.{Holds}
+use Rattle.promise.proofs.Opened.{sound-of}
 use Rattle.promise.specs.Demand2.{Acceptable, Given}
 use Rattle.promise.proofs.Encoding.{joined-one, drop-older, walk-older}
 use Rattle.emit_rules.proofs.Stored.{stored-cpu, stored-capacity, stored-write, stored-tail, stored-sound, stored-live}
@@ -95,7 +97,7 @@ module _ (cpu capacity : ℕ) (s : List ℕ) (w : Writer) (ring : Ring Event) (e
     given = (some, omega arith);
     holds = record {
       narrow = h .narrow;
-      sound = h .sound;
+      opens = opens-sound _ _ (sound-of h);
       bytewise = h .bytewise;
       named = h .named;
       sized = h .sized;
@@ -196,8 +198,8 @@ module _ (cpu capacity : ℕ) (s : List ℕ) (w : Writer) (ring : Ring Event) (e
         (pageOf (notified moved) .«tail_pos») (futexCounter s + raises (accepting waits))
     unfolding stored putAll
     left-by =
-        let far = stored-write s p (h .sound) event there far-enough onward not-past fits in
-        let near = stored-tail s p (h .sound) event there far-enough onward not-past fits in
+        let far = stored-write s p (sound-of h) event there far-enough onward not-past fits in
+        let near = stored-tail s p (sound-of h) event there far-enough onward not-past fits in
         told-on
         ∙ (λ i. layer (h .sized i) (h .write-is i) s (bytes-added i) (sym far i) (sym near i) (futexCounter s + raises (accepting waits)))
 
@@ -211,14 +213,14 @@ module _ (cpu capacity : ℕ) (s : List ℕ) (w : Writer) (ring : Ring Event) (e
           given = told-given capacity (ring .last) (write size ring) (size e) waits (some, omega arith, omega arith);
           holds = record {
             narrow = h .narrow;
-            sound = stored-sound s p (h .sound) event there far-enough onward not-past fits;
+            opens = opens-sound _ _ (stored-sound s p (sound-of h) event there far-enough onward not-past fits);
             bytewise = λ i low. notified-small moved i (moved-small i low);
-            named = stored-cpu s p (h .sound) event there ∙ h .named;
-            sized = stored-capacity s p (h .sound) event there ∙ h .sized;
-            tail-is = stored-tail s p (h .sound) event there far-enough onward not-past fits;
-            write-is = stored-write s p (h .sound) event there far-enough onward not-past fits
+            named = stored-cpu s p (sound-of h) event there ∙ h .named;
+            sized = stored-capacity s p (sound-of h) event there ∙ h .sized;
+            tail-is = stored-tail s p (sound-of h) event there far-enough onward not-past fits;
+            write-is = stored-write s p (sound-of h) event there far-enough onward not-past fits
                 ∙ omega (arith, h .write-is, long, storing-write size capacity ring e);
-            bytes-are = stored-live s p (h .sound) event there far-enough onward not-past fits
+            bytes-are = stored-live s p (sound-of h) event there far-enough onward not-past fits
                 ∙ ap₂ (λ (n : ℕ) (l : List ℕ). drop n l ++ event) back (h .bytes-are)
                 ∙ ap₂ (λ (l d : List ℕ). l ++ d) (drop-older cpu capacity (size e) (omega arith) (ring .kept)) event-is
                 ∙ sym (joined-one cpu rest (new ring e));
@@ -268,4 +270,4 @@ module _ (cpu capacity : ℕ) (s : List ℕ) (w : Writer) (ring : Ring Event) (e
       (one2 size capacity ring e (h .holding) .holding)
     where
       opens : sent ≡ emittedOn s p w (labelOf e) (e .payload)
-      opens = on-sound s w (labelOf e) (e .payload) p (h .sound)
+      opens = on-sound s w (labelOf e) (e .payload) p (sound-of h)

@@ -15,9 +15,10 @@ use Rattle.capacity_rules.proofs.Laws.{allowed-range}
 use Rattle.word_rules.specs.Number.{put}
 use Rattle.page_rules.specs.Page.{pageOf, positions}
 use Rattle.page_rules.specs.Fresh.{blank}
-use Rattle.page_rules.specs.Sound.{Sound}
+use Rattle.page_rules.proofs.Facts.{Sound}
 use Rattle.page_rules.specs.Wake.{needWake, wakes}
 use Rattle.page_rules.specs.declared.Page.{Page}
+use Rattle.page_rules.proofs.Sound.{opens-sound}
 use Rattle.region_rules.specs.Region.{storeAt}
 use Rattle.region_rules.proofs.Storing.{store-below}
 use Rattle.event_rules.specs.Run.{joined}
@@ -41,6 +42,7 @@ use Rattle.history.proofs.Ideal.{swap as idealSwap}
 use Rattle.history.proofs.Swap.{swaps as idealSwaps}
 use Rattle.promise.specs.Bytes.{Event, size, encode, State}
 use Rattle.promise.specs.Holds.{Holds}
+use Rattle.promise.proofs.Opened.{sound-of}
 use Rattle.promise.specs.Swaps.{swap, swapped, keeping, SwapPromise, Swaps}
 use Rattle.promise.proofs.Encoding.{encode-lengths, encode-latest, joined-length}
 use Rattle.promise.proofs.Holds.{holds-counted, walked-kept, holds-surveyed}
@@ -64,7 +66,7 @@ module _ (cpu before : ℕ) (s : State) (ring : Ring Event) (h : Holds cpu befor
 
     pub carriable : Carriable (s .ring) p t (s .writer)
     carriable = record {
-      sound = h .sound;
+      sound = sound-of h;
       counted = counted (s .writer) (holds-counted cpu before (s .ring) (s .writer) ring h);
       sized = ap allowed size-is ∙ fit;
       later = later;
@@ -110,7 +112,7 @@ module _ (cpu before : ℕ) (s : State) (ring : Ring Event) (h : Holds cpu befor
         let count : length (latest length (length t - 8192) (walked (s .ring) p)) ≡ length kept = ap length kept-is ∙ length-map kept (encode cpu) in
         record {
           narrow = h .narrow;
-          sound = subst (Sound (swap s t .new)) says (exchanged .sound);
+          opens = opens-sound _ _ (subst (Sound (swap s t .new)) says (exchanged .sound));
           bytewise = new-small;
           named = sym (ap (λ (q : Page). q .«cpu_id») says) ∙ h .named;
           sized = sym (ap (λ (q : Page). q .capacity) says) ∙ size-is;
@@ -128,7 +130,7 @@ module _ (cpu before : ℕ) (s : State) (ring : Ring Event) (h : Holds cpu befor
         let says = exchanged .frozen .says in
         record {
           narrow = h .narrow;
-          sound = subst (Sound (swap s t .old)) says (exchanged .frozen);
+          opens = opens-sound _ _ (subst (Sound (swap s t .old)) says (exchanged .frozen));
           bytewise = old-small;
           named = sym (ap (λ (q : Page). q .«cpu_id») says) ∙ h .named;
           sized = sym (ap (λ (q : Page). q .capacity) says) ∙ h .sized;
@@ -200,7 +202,7 @@ module _ (cpu before : ℕ) (s : State) (ring : Ring Event) (h : Holds cpu befor
   right = holds-counted cpu before (s .ring) (s .writer) ring h
 
   opens : swap s t ≡ exchangeOn (s .ring) p t (s .writer)
-  opens = on-sound (s .ring) t (s .writer) p (h .sound)
+  opens = on-sound (s .ring) t (s .writer) p (sound-of h)
 
   answers : outcome ≡ first ((wrongSize t, Size) ∷ (lastGeneration p, Generation) ∷ []) Refused (exchanging (wakes (needWake (s .ring))))
   unfolding first lastGeneration carriedOver

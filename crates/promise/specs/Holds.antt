@@ -3,7 +3,7 @@
 use Prim.Native.Nat.{ℕ, _^_, _<_}
 use mathlib.Core.{Path._≡_, List.List, List.map}
 use lib.{ListN.getD}
-use Rattle.page_rules.specs.{Page.pageOf, Sound.Sound}
+use Rattle.page_rules.specs.{Page.pageOf, Page.opened, declared.Opened.the-variants.Page}
 use Rattle.event_rules.specs.{Run.joined}
 use Rattle.look_rules.specs.{Live.live}
 use Rattle.writer_rules.specs.{declared.Writer.Writer}
@@ -12,7 +12,7 @@ use Rattle.promise.specs.{Bytes.Event, Bytes.size, Bytes.encode}
 
 pub record Holds (cpu capacity : ℕ) (s : List ℕ) (w : Writer) (ring : Ring Event) : Type 0 where
   pub narrow : cpu < 2 ^ 16
-  pub sound : Sound s (pageOf s)
+  pub opens : opened s ≡ Page (pageOf s)
   -- the first page is of bytes
   pub bytewise : (i : ℕ) → i < 4096 → getD s i 0 < 256
   pub named : pageOf s .«cpu_id» ≡ cpu

@@ -22,6 +22,7 @@ use Rattle.history.proofs.Ideal.{emit, swap as idealSwap}
 use Rattle.history.proofs.Ideal.{calls, after}
 use Rattle.promise.specs.Bytes.{Event, size, Turn}
 use Rattle.promise.specs.Holds.{Holds}
+use Rattle.promise.proofs.Opened.{sound-of}
 use Rattle.promise.specs.Demand2.{zeros}
 use Rattle.promise.specs.Swaps.{swap, swapped}
 use Rattle.promise.proofs.Swaps.{swapped-holds, new-generation, old-generation}
@@ -47,7 +48,7 @@ module _ (given : ℕ → Turn) (buffer : ℕ → List ℕ) (sized : (capacity :
   wraps =
       let s : List ℕ = lived given buffer 256 four .ring in
       let h = lived-holds given buffer sized 256 refl four in
-      let long : length s ≡ 8192 + 256 = h .sound .long ∙ ap (λ (c : ℕ). 8192 + c) (h .sized) in
+      let long : length s ≡ 8192 + 256 = sound-of h .long ∙ ap (λ (c : ℕ). 8192 + c) (h .sized) in
       stretches s 256 long (omega arith) 416 96 32 (bytesOf given 7)
       (event-at 3 256 s (lived given buffer 256 four .writer) (reached given buffer sized 256 four) h (event 6 ∷ []) (event 7) [] refl) (omega arith) (omega arith)
 

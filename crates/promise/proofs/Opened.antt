@@ -1,0 +1,13 @@
+-- A ring that holds together is opened, so its numbers are sound.
+use Prim.Native.Nat.{ℕ}
+use mathlib.Core.List.{List}
+use Rattle.page_rules.specs.Page.{pageOf}
+use Rattle.page_rules.proofs.Facts.{Sound}
+use Rattle.page_rules.proofs.Sound.{sound}
+use Rattle.writer_rules.specs.declared.Writer.{Writer}
+use Rattle.history.specs.Ring.{Ring}
+use Rattle.promise.specs.Bytes.{Event}
+use Rattle.promise.specs.Holds.{Holds}
+
+pub sound-of : {cpu capacity : ℕ} {s : List ℕ} {w : Writer} {ring : Ring Event} → Holds cpu capacity s w ring → Sound s (pageOf s)
+sound-of {s = s} h = sound s (pageOf s) (h .opens)

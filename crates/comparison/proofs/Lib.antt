@@ -3,4 +3,5 @@ pub mod Following
 pub mod Ends
 pub mod Histories
 pub mod Demand3
+pub mod WrongReads
 pub mod ShutOut3

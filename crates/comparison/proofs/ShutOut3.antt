@@ -21,7 +21,7 @@ use Rattle.promise.proofs.Unrefused.{unrefused2}
 use Rattle.promise.proofs.ShutOut2.{fit, early, event}
 use Rattle.comparison.specs.Emptying.{Watched, started, emission, Read, Empties, Emptied, NewlyAttachedBy}
 use Rattle.comparison.specs.Comparison.{turn, Emission, Emptying, Half, Promise3, DemandBy3}
-use Rattle.comparison.specs.ShutOut3.{idle, refusingRead, atWrite, ShutOut3}
+use Rattle.comparison.proofs.WrongReads.{idle, refusingRead, atWrite, ShutOut3}
 use Rattle.comparison.proofs.Ends.{consumer, lent, enough, count}
 use Rattle.comparison.proofs.Following.{Follows, follows-start, follows-emission, hands-latest}
 

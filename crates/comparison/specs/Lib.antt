@@ -1,3 +1,2 @@
 pub mod Emptying
 pub mod Comparison
-pub mod ShutOut3

@@ -9,11 +9,11 @@ use Rattle.page_rules.specs.Wake.{futexCounter}
 use Rattle.event_rules.specs.Run.{joined}
 use Rattle.emit_rules.specs.declared.Outcome.{Outcome}
 use Rattle.run_rules.specs.Runs.{total, latest}
-use Rattle.history.specs.Ring.{Numbered, write}
+use Rattle.history.specs.Ring.{Numbered, Ring, write}
 use Rattle.history.specs.Calls.{Call, uses, used, droppedOf, accepted}
 use Rattle.run_rules.proofs.Runs.{longest-latest}
-use Rattle.promise.specs.Bytes.{Event, size, taken, encode, Turn, Made, answerOf, callOf, acceptedOf, raises, outcomesOf}
-use Rattle.promise.specs.Demand2.{Given, waiting, Exact, Decided2}
+use Rattle.promise.specs.Bytes.{Event, size, taken, encode, State, Turn, Made, answerOf, callOf, acceptedOf, raises, outcomesOf}
+use Rattle.promise.specs.Demand2.{Given, waiting, Exact, Promise, Alike}
 use Rattle.promise.proofs.Layers.{layer}
 
 abbrev turnOf : Made → Turn
@@ -39,6 +39,14 @@ exact-one capacity last w (m ∷ ms) (j ∷ js) e a b =
       ap₂ (λ (x : Outcome) (l : List Outcome). x ∷ l) outcome (rest .0),
       ap₂ (λ (x : Call Event) (l : List (Call Event)). x ∷ l) call (rest .1),
     )
+
+-- whatever meets the promise twice, with the same consumer and the same events, is alike
+abbrev pub Decided2 : Type 0
+Decided2 =
+    (cpu capacity : ℕ) (beginning : Ring Event) (without : List ℕ) (calls others : List Made) (one other : State) →
+    map (λ (m : Made). m .turn) calls ≡ map (λ (m : Made). m .turn) others →
+    Promise cpu capacity beginning without calls one → Promise cpu capacity beginning without others other →
+    Alike calls one others other
 
 pub decided2 : Decided2
 decided2 cpu capacity beginning without calls others one other e p q =

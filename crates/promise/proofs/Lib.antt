@@ -14,5 +14,6 @@ pub mod Decided
 pub mod Reading
 pub mod OneRead
 pub mod Only2
+pub mod WrongEmissions
 pub mod ShutOut2
 pub mod Places

@@ -4,7 +4,7 @@ use mathlib.Core.List.{List, [], _∷_, map}
 use Rattle.history.specs.Ring.{fresh}
 use Rattle.promise.specs.Bytes.{State, Turn, uncalled, Emission, called, left, Made, madeBy, afterBy, operation, made, after}
 use Rattle.promise.specs.Demand2.{createdState}
-use Rattle.promise.specs.Only2.{Only2}
+use Rattle.promise.specs.Demand2.{Only2}
 use Rattle.promise.proofs.Created.{fresh2}
 use Rattle.promise.proofs.Decided.{decided2}
 

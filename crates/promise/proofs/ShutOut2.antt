@@ -33,7 +33,7 @@ use Rattle.promise.specs.Bytes.{Event, size, encode, State, Turn, consum
 use Rattle.promise.specs.Holds.{Holds}
 use Rattle.promise.proofs.Opened.{sound-of}
 use Rattle.promise.specs.Demand2.{Given, waiting, createdState, Promise, FreshBy2}
-use Rattle.promise.specs.Only2.{refusingEmission, dropping, silent, moving, storingFirst, inventing, unraising, scribbling, ShutOut2}
+use Rattle.promise.proofs.WrongEmissions.{refusingEmission, dropping, silent, moving, storingFirst, inventing, unraising, scribbling, ShutOut2}
 use Rattle.promise.proofs.Encoding.{encode-length}
 use Rattle.promise.proofs.Layers.{layer-length, layer-number, layer-counter, uncalled-number}
 use Rattle.promise.proofs.Created.{created-blank, created-holds, fresh2}

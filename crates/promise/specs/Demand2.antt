@@ -147,10 +147,10 @@ Unrefused2 =
 abbrev pub Alike : List Made → State → List Made → State → Type 0
 Alike calls one others other = (outcomesOf calls ≡ outcomesOf others) × (one ≡ other)
 
--- the promise leaves no choice: whatever meets it twice, with the same consumer and the same events, is alike
-abbrev pub Decided2 : Type 0
-Decided2 =
-    (cpu capacity : ℕ) (beginning : Ring Event) (without : List ℕ) (calls others : List Made) (one other : State) →
-    map (λ (m : Made). m .turn) calls ≡ map (λ (m : Made). m .turn) others →
-    Promise cpu capacity beginning without calls one → Promise cpu capacity beginning without others other →
-    Alike calls one others other
+-- no emission but the operation's own meets the demand: whatever does gives, on every fresh ring and after every history, the same
+abbrev pub Only2 : Type 0
+Only2 =
+    (make : Emission) → FreshBy2 make →
+    (cpu capacity : ℕ) → cpu < 2 ^ 16 → allowed capacity ≡ true → (buffer : List ℕ) → length buffer ≡ 8192 + capacity → (turns : List Turn) →
+    Alike (madeBy make (createdState cpu buffer) turns) (afterBy make (createdState cpu buffer) turns)
+    (made (createdState cpu buffer) turns) (after (createdState cpu buffer) turns)

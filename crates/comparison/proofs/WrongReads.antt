@@ -1,4 +1,4 @@
--- Wrong reads that don't meet the third demand, and a wrong attaching.
+-- Wrong reads by name that don't meet the third demand, and a wrong attaching.
 use Rattle.table_rules.specs.{declared.Refusal.Refusal}
 use Rattle.page_rules.specs.{Page.pageOf}
 use Rattle.reader_rules.specs.{Reader.movedTo, Attach.atTail, Read.untouched}

@@ -1,23 +1,12 @@
--- No emission but the operation's own meets the second demand: whatever does gives, on every fresh ring and after every history, the same answers,
--- record and bytes. And some wrong ones, by name, that don't.
-use Prim.Native.Nat.{ℕ, _+_, _^_, _<_}
-use mathlib.Core.{Path._≡_, Bool.true, Bool.cond, List.List}
+-- Wrong emissions by name, and that none of them meets the second demand as a statement: `Only2` says it of all others.
+use Prim.Native.Nat.{ℕ, _+_, _<_}
+use mathlib.Core.{Bool.cond}
 use lib.{ListN.length, ListN.set, Dec.eqb}
 use Rattle.table_rules.specs.{declared.Refusal.Refusal}
 use Rattle.word_rules.specs.{Number.put, Fields.putAll}
-use Rattle.capacity_rules.specs.{Capacity.allowed}
 use Rattle.page_rules.specs.{Page.pageOf, Page.positions, Wake.futexCounter}
 use Rattle.emit_rules.specs.{Emit.refuse, Emit.dropped, Emit.emission}
-use Rattle.promise.specs.{Bytes.Turn, Bytes.Emission, Bytes.madeBy, Bytes.afterBy, Bytes.made, Bytes.after, Demand2.createdState, Demand2.FreshBy2, Demand2.Alike}
-
-abbrev pub Only2 : Type 0
-Only2 =
-    (make : Emission) → FreshBy2 make →
-    (cpu capacity : ℕ) → cpu < 2 ^ 16 → allowed capacity ≡ true → (buffer : List ℕ) → length buffer ≡ 8192 + capacity → (turns : List Turn) →
-    Alike (madeBy make (createdState cpu buffer) turns) (afterBy make (createdState cpu buffer) turns)
-    (made (createdState cpu buffer) turns) (after (createdState cpu buffer) turns)
-
--- ---- wrong emissions
+use Rattle.promise.specs.{Bytes.Emission, Demand2.FreshBy2}
 
 -- refuses everything
 abbrev pub refusingEmission : Refusal → Emission

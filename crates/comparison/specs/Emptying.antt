@@ -1,14 +1,11 @@
--- One ring with its writer and its one reader, and what emptying it is: reading until EMPTY, each read with the record that the read before handed
--- back. Read is whatever answers; the operation's own is `readOut`.
+-- One ring with its writer and its one reader. Emptying is reading until EMPTY, each read with the record that the read before handed back.
 use Prim.Native.Nat.{ℕ, _+_, _≤_}
 use mathlib.Core.{Path._≡_, List.List, List.[], List._∷_, List._++_, List.map}
 use lib.{ListN.length, ListN.drop}
 use Rattle.page_rules.specs.{Page.pageOf}
 use Rattle.create_rules.specs.{Create.afterCreate}
 use Rattle.writer_rules.specs.{declared.Writer.Writer}
-use Rattle.reader_rules.specs.{Attach.attached, Read.AfterRead, Read.readOut, declared.Reader.Reader, declared.Attached.Attached}
-use Rattle.reader_rules.specs.declared.Attachment.the-variants as attachment
-use Rattle.reader_rules.specs.declared.Reading.the-variants as reading
+use Rattle.reader_rules.specs.{Attach.attached, Read.AfterRead, Read.readOut, declared.Reader.Reader, declared.Attached.Attached, declared.Attachment.the-variants.Done as attachmentDone, declared.Reading.the-variants.Empty as readingEmpty, declared.Reading.the-variants.Event as readingEvent}
 use Rattle.run_rules.specs.{Runs.lastOf, Runs.LongestRun}
 use Rattle.history.specs.{Ring.sequenceOf, Ring.Numbered, Ring.Ring}
 use Rattle.promise.specs.{Bytes.Event, Bytes.encode, Bytes.State, Bytes.consumed, Bytes.Turn, Bytes.made, Bytes.after, Bytes.acceptedOf, Holds.Holds, Demand2.createdState}
@@ -29,7 +26,7 @@ abbrev pub Hands : Read → List ℕ → Reader → List ℕ → Reader → Type
 Hands read s reader event next =
     (consumer : Consumer) (out : List ℕ) → length event ≤ length out →
     read (consumed s (consumer .page)) reader out ≡ record {
-      answered = record { answer = reading.Event (length event); reader = next };
+      answered = record { answer = readingEvent (length event); reader = next };
       out = event ++ drop (length event) out;
     }
 
@@ -37,7 +34,7 @@ Hands read s reader event next =
 abbrev pub Ends : Read → List ℕ → Reader → Reader → Type 0
 Ends read s reader end =
     (consumer : Consumer) (out : List ℕ) →
-    read (consumed s (consumer .page)) reader out ≡ record { answered = record { answer = reading.Empty; reader = end }; out = out }
+    read (consumed s (consumer .page)) reader out ≡ record { answered = record { answer = readingEmpty; reader = end }; out = out }
 
 -- reading until EMPTY hands out these events' bytes, one event at each read, and leaves the reader's record as `end`
 abbrev pub Empties : Read → List ℕ → Reader → List (List ℕ) → Reader → Type 0
@@ -54,12 +51,11 @@ OneEnd =
 abbrev pub Attach : Type 0
 Attach = List ℕ → Reader → Attached
 
--- A reader newly attached to any ring that holds together is handed exactly the events kept until EMPTY, and its record counts them. `any` is the
--- record that attaching was given
+-- a reader newly attached to any ring that holds together is handed exactly the events kept until EMPTY; `any` is what attaching was given
 abbrev pub NewlyAttachedBy : Attach → Type 0
 NewlyAttachedBy attach =
     (cpu capacity : ℕ) (s : List ℕ) (w : Writer) (ring : Ring Event) → Holds cpu capacity s w ring → (any : Reader) →
-    (attach s any .answer ≡ attachment.Done)
+    (attach s any .answer ≡ attachmentDone)
     × Empties readOut s (attach s any .reader) (map (encode cpu) (ring .kept)) (record {
       «read_pos» = pageOf s .«write_pos»;
       last = lastOf sequenceOf 0 (ring .kept);
@@ -72,8 +68,7 @@ NewlyAttached = NewlyAttachedBy attached
 
 -- ---- a ring with its one reader
 
--- the ring's bytes and the writer's record, the reader's record, and the events accepted since the last emptying: as in the second demand they are
--- told from the answers, each under the last sequence of the record that its call handed back
+-- the ring's bytes and the writer's record, the reader's record, and the events accepted since the last emptying, told from the answers
 pub record Watched : Type 0 where
   pub state : State
   pub reader : Reader
@@ -84,11 +79,7 @@ abbrev pub started : ℕ → List ℕ → Reader → Watched
 started cpu buffer any = record { state = createdState cpu buffer; reader = attached (afterCreate cpu buffer) any .reader; since = [] }
 
 abbrev pub emission : Watched → Turn → Watched
-emission w t = record {
-  state = after (w .state) (t ∷ []);
-  reader = w .reader;
-  since = w .since ++ acceptedOf (made (w .state) (t ∷ []));
-}
+emission w t = record { state = after (w .state) (t ∷ []); reader = w .reader; since = w .since ++ acceptedOf (made (w .state) (t ∷ [])) }
 
 -- an emptying of the ring as it stands: a read that always answers EMPTY breaks `longest`
 pub record Emptied (read : Read) (cpu capacity : ℕ) (w : Watched) : Type 0 where

@@ -1,5 +1,4 @@
--- "All else below 8192 is made zero and never looked at. A consumer may write anything in bytes 4096 to 8191; no answer depends on them but through
--- byte 4096" (document 01). Of any bytes s and t, a ring or not.
+-- "All else below 8192 is .. never looked at .. no answer depends on them but through byte 4096" (document 01). Of any bytes s and t, a ring or not.
 use Prim.Native.Nat.{ℕ, _≤_, _<_}
 use mathlib.Core.{Path._≡_, Logic._⊎_, List.List}
 use lib.{ListN.length, ListN.getD}

@@ -1,27 +1,18 @@
 -- The second demand, of the bytes: "the bytes from tail to write position are exactly the longest run of latest accepted events that fits. Only an
 -- event above half the capacity is dropped. The last number given out equals events kept, dropped and overwritten together."
 -- A history is any list of calls, so what holds after it holds at every point of every history. What was accepted and what was dropped is read off
--- the calls' answers, what is kept off the bytes. So the promise is broken
---   by an emission that refuses everything, or always answers DROPPED, or tells a consumer that doesn't wait: `exact`;
---   by one that writes nothing, or stores the first event and only moves positions later: `bytes` with `longest`;
---   by one that never raises futex_counter, or writes where it has no business: `ring`;
---   by one that keeps less than it could, or moves the tail to anything but an event's start: `bytes` with `longest`;
---   by one that gives a number twice or leaves one out: `exact`, `last`;
---   by one that invents dropped or overwritten: `dropped`, `counts` with `inspection`.
--- `Only2` (specs/Only2.antt) says it of all others, and `ShutOut2` of these one by one.
+-- the calls' answers, what is kept off the bytes.
 use Prim.Native.Nat.{ℕ, _+_, _-_, _/_, _%_, _^_, _≤_, _<_}
 use mathlib.Core.{Path._≡_, Logic._⊎_, Logic._≢_, Logic._↔_, Bool.Bool, Bool.true, Bool.false, List.List, List.[], List._∷_, List._++_, List.map}
 use lib.{ListN.length, ListN.getD}
 use Rattle.table_rules.specs.{declared.Refusal.Refusal, Refusals.paperNumber}
 use Rattle.word_rules.specs.{Fields.putAll}
 use Rattle.capacity_rules.specs.{Capacity.allowed}
-use Rattle.page_rules.specs.{Page.pageOf, Page.opened, Page.positions, Wake.futexCounter, Wake.wakes}
-use Rattle.page_rules.specs.declared.Opened.the-variants as opens
+use Rattle.page_rules.specs.{Page.pageOf, Page.opened, Page.positions, Wake.futexCounter, Wake.wakes, declared.Opened.the-variants.Page as opensPage}
 use Rattle.region_rules.specs.{Region.storeAt}
 use Rattle.event_rules.specs.{Run.joined}
 use Rattle.look_rules.specs.{Live.live}
-use Rattle.create_rules.specs.{Create.created, Create.afterCreate}
-use Rattle.create_rules.specs.declared.Created.the-variants as creates
+use Rattle.create_rules.specs.{Create.created, Create.afterCreate, declared.Created.the-variants.Done as createsDone}
 use Rattle.emit_rules.specs.{declared.Outcome.Outcome, declared.Outcome.the-variants.Done, declared.Outcome.the-variants.Wake, declared.Outcome.the-variants.Dropped, declared.Outcome.the-variants.Refused}
 use Rattle.inspect_rules.specs.{Inspect.inspected, declared.Inspected.the-variants.Whole}
 use Rattle.writer_rules.specs.{declared.Writer.Writer}
@@ -77,7 +68,7 @@ shown kept s = record {
 -- of the calls made from a beginning, and of the bytes and the record after them; `without` is the ring as it would be without the calls
 pub record Promise (cpu capacity : ℕ) (beginning : Ring Event) (without : List ℕ) (calls : List Made) (end : State) : Type 0 where
   -- refusals 1 to 6 don't meet the ring
-  pub opens : opened (end .ring) ≡ opens.Page (pageOf (end .ring))
+  pub opens : opened (end .ring) ≡ opensPage (pageOf (end .ring))
   pub kept : List (Numbered Event)
   -- "the bytes from tail to write position are exactly ..": header and payload of each, under the sequence that its call gave
   pub bytes : live (end .ring) (pageOf (end .ring)) ≡ joined (map (encode cpu) kept)
@@ -122,7 +113,7 @@ createdState cpu buffer = record { ring = afterCreate cpu buffer; writer = zeros
 abbrev pub FreshBy2 : Emission → Type 0
 FreshBy2 make =
     (cpu capacity : ℕ) → cpu < 2 ^ 16 → allowed capacity ≡ true → (buffer : List ℕ) → length buffer ≡ 8192 + capacity → (turns : List Turn) →
-    (created buffer ≡ creates.Done)
+    (created buffer ≡ createsDone)
     × Promise cpu capacity fresh (uncalled (afterCreate cpu buffer) turns) (madeBy make (createdState cpu buffer) turns)
     (afterBy make (createdState cpu buffer) turns)
 

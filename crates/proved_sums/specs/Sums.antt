@@ -5,9 +5,7 @@ use lib.{ListN.length, ListN.take, ListN.drop}
 use Rattle.page_rules.specs.{Page.pageOf}
 use Rattle.writer_rules.specs.{declared.Writer.Writer}
 use Rattle.create_rules.specs.{Create.afterCreate}
-use Rattle.reader_rules.specs.{Reader.missed, Attach.attached, Read.AfterRead, Read.readOut, declared.Reader.Reader, declared.Reading.Reading}
-use Rattle.reader_rules.specs.declared.Attachment.the-variants as attachment
-use Rattle.reader_rules.specs.declared.Reading.the-variants as reading
+use Rattle.reader_rules.specs.{Reader.missed, Attach.attached, Read.AfterRead, Read.readOut, declared.Reader.Reader, declared.Reading.Reading, declared.Attachment.the-variants.Done as attachmentDone, declared.Reading.the-variants.Empty as readingEmpty, declared.Reading.the-variants.Event as readingEvent}
 use Rattle.run_rules.specs.{Runs.EndPart}
 use Rattle.history.specs.{Ring.Done, Ring.Dropped}
 use Rattle.promise.specs.{Bytes.Event, Bytes.encode, Bytes.Turn, Swaps.swap, Swaps.swapped}
@@ -48,11 +46,11 @@ answering answer reader out = record { answered = record { answer = answer; read
 
 -- three reads one after the other, each with the record and the output buffer that the one before left: the answer, the record and every byte
 pub record Reads (ring out six seven : List ℕ) : Type 0 where
-  pub first : readOut ring (standing 0 0 0) out ≡ answering (reading.Event 128) (standing 416 6 1) (six ++ drop 128 out)
+  pub first : readOut ring (standing 0 0 0) out ≡ answering (readingEvent 128) (standing 416 6 1) (six ++ drop 128 out)
   pub first-missed : missed (readOut ring (standing 0 0 0) out .answered .reader) ≡ 5
-  pub second : readOut ring (standing 416 6 1) (six ++ drop 128 out) ≡ answering (reading.Event 128) (standing 544 7 2) (seven ++ drop 128 out)
+  pub second : readOut ring (standing 416 6 1) (six ++ drop 128 out) ≡ answering (readingEvent 128) (standing 544 7 2) (seven ++ drop 128 out)
   pub second-missed : missed (readOut ring (standing 416 6 1) (six ++ drop 128 out) .answered .reader) ≡ 5
-  pub third : readOut ring (standing 544 7 2) (seven ++ drop 128 out) ≡ answering reading.Empty (standing 544 7 2) (seven ++ drop 128 out)
+  pub third : readOut ring (standing 544 7 2) (seven ++ drop 128 out) ≡ answering readingEmpty (standing 544 7 2) (seven ++ drop 128 out)
 
 -- ---- line 10
 
@@ -82,7 +80,7 @@ module _ (given : ℕ → Turn) where
     pub line5 : (answers given buffer 256 five ≡ Done ∷ Done ∷ Done ∷ Done ∷ Done ∷ Done ∷ Done ∷ Dropped ∷ [])
         × Shows (lived given buffer 256 five) 256 288 544 (6 ∷ 7 ∷ []) (counted (2 + 1 + 5) 1 5)
     -- "A reader attached before line 1 now gets 6 (missed 5), 7 (missed 5), EMPTY."
-    pub line6 : ((old : Reader) → attached (afterCreate 3 (buffer 256)) old ≡ record { answer = attachment.Done; reader = standing 0 0 0 })
+    pub line6 : ((old : Reader) → attached (afterCreate 3 (buffer 256)) old ≡ record { answer = attachmentDone; reader = standing 0 0 0 })
         × ((out : List ℕ) → 128 ≤ length out → Reads (lived given buffer 256 five .ring) out (bytesOf 6) (bytesOf 7))
     -- "Swapped to 512: tail 0, write 256, generation 2; the old page also shows 2."
     pub line7 : Shows (swapped (lived given buffer 256 five) (buffer 512)) 512 0 256 (6 ∷ 7 ∷ []) (counted 8 1 5)

@@ -9,22 +9,18 @@ use Rattle.event_rules.specs.{Event.eventSize, Run.passable, declared.Walk.Walk
 use Rattle.event_rules.specs.declared.Walk.the-variants as walks
 use Rattle.look_rules.specs.{Live.rest}
 use Rattle.writer_rules.specs.{Writer.wrongWriter, declared.Writer.Writer}
-use Rattle.create_rules.specs.{Create.wrongSize, Create.created, Create.afterCreate}
-use Rattle.create_rules.specs.declared.Created.the-variants as creates
+use Rattle.create_rules.specs.{Create.wrongSize, Create.created, Create.afterCreate, declared.Created.the-variants.Done as createsDone, declared.Created.the-variants.Refused as createsRefused}
 use Rattle.emit_rules.specs.{Emit.tooLarge, Emit.tooFar, Emit.disagrees, Emit.walkEnd, Emit.emission, declared.Label.Label}
 use Rattle.emit_rules.specs.declared.Outcome.the-variants as emits
-use Rattle.inspect_rules.specs.{Inspect.surveyed, Inspect.summary, Inspect.damaged, Inspect.inspected}
-use Rattle.inspect_rules.specs.declared.Inspected.the-variants as inspects
-use Rattle.reader_rules.specs.{Reader.miscounted, Reader.wrongReader, Attach.attached, Read.readingPlace, Read.readOut, declared.Reader.Reader}
-use Rattle.reader_rules.specs.declared.Attachment.the-variants as attaches
+use Rattle.inspect_rules.specs.{Inspect.surveyed, Inspect.summary, Inspect.damaged, Inspect.inspected, declared.Inspected.the-variants.Refused as inspectsRefused, declared.Inspected.the-variants.Whole as inspectsWhole}
+use Rattle.reader_rules.specs.{Reader.miscounted, Reader.wrongReader, Attach.attached, Read.readingPlace, Read.readOut, declared.Reader.Reader, declared.Attachment.the-variants.Done as attachesDone, declared.Attachment.the-variants.Refused as attachesRefused}
 use Rattle.reader_rules.specs.declared.Reading.the-variants as reads
 use Rattle.follow_rules.specs.{Follow.followed}
 use Rattle.swap_rules.specs.{Swap.lastGeneration, Swap.countDiffers, Swap.exchange}
 use Rattle.swap_rules.specs.declared.SwapOutcome.the-variants as swaps
 use Rattle.console_rules.specs.{Console.createdNumber, Console.inspectedNumber, Console.recordOf, Console.emitCall}
 
--- what is promised of a call: `refused` is its answer to a refusal, 10 bearing `place`; the table is handed that answer for each number; `unchanged` says
--- that all it was lent to change is as it came
+-- of a call: `refused` is its answer to a refusal, 10 bearing `place`; `unchanged` says that all it was lent to change is as it came
 pub record Asked {A : Type 0} (refused : Refusal → A) (place : ℕ) (table : (ℕ → A) → List (Bool × A)) (answer : A) (unchanged : Type 0) : Type 0 where
   -- an answer is given exactly where its row is the first that holds, and so every answer is one of the table's
   pub exact : (a : A) → (answer ≡ a) ↔ ((turn : ℕ) × Stops turn (table (λ n. refused (paperName place n))) a)
@@ -61,7 +57,7 @@ inspectTable s whole refusal = pageTable s refusal ++ ((damaged s (pageOf s), re
 -- all but creation, emission and swap are lent the ring to be read only, and an inspection is lent nothing else
 pub record Demand1 : Type 0 where
   pub create : (cpu : ℕ) (s : List ℕ)
-      → Asked creates.Refused 0 (λ refusal. (wrongSize s, refusal 16) ∷ (true, creates.Done) ∷ []) (created s) (afterCreate cpu s ≡ s)
+      → Asked createsRefused 0 (λ refusal. (wrongSize s, refusal 16) ∷ (true, createsDone) ∷ []) (created s) (afterCreate cpu s ≡ s)
   pub emit : (s : List ℕ) (w : Writer) (label : Label) (payload : List ℕ)
       → let size = 32 + length payload in
       let after = emission s w label payload in
@@ -69,10 +65,10 @@ pub record Demand1 : Type 0 where
       (after .answer .outcome) ((after .ring ≡ s) × (after .answer .writer ≡ w))
   pub inspect : (s : List ℕ)
       → let v = surveyed s (pageOf s) in
-      Asked inspects.Refused (v .stop) (inspectTable s (inspects.Whole (summary v))) (inspected s) (Unit {0})
+      Asked inspectsRefused (v .stop) (inspectTable s (inspectsWhole (summary v))) (inspected s) (Unit {0})
   pub attach : (s : List ℕ) (reader : Reader)
       → let after = attached s reader in
-      Asked attaches.Refused 0 (λ refusal. pageTable s refusal ++ ((true, attaches.Done) ∷ [])) (after .answer) (after .reader ≡ reader)
+      Asked attachesRefused 0 (λ refusal. pageTable s refusal ++ ((true, attachesDone) ∷ [])) (after .answer) (after .reader ≡ reader)
   pub read : (s : List ℕ) (reader : Reader) (out : List ℕ)
       → let p = pageOf s in
       let at = readingPlace p reader in
@@ -91,11 +87,11 @@ pub record Demand1 : Type 0 where
   pub follow : (s : List ℕ) (reader : Reader)
       → let p = pageOf s in
       let after = followed s reader in
-      Asked attaches.Refused (surveyed s p .stop)
+      Asked attachesRefused (surveyed s p .stop)
       (λ refusal.
       pageTable s refusal
       ++ ((miscounted reader, refusal 13) ∷ (leb (p .generation) (reader .generation), refusal 15) ∷ (damaged s p, refusal 10)
-      ∷ (true, attaches.Done) ∷ []))
+      ∷ (true, attachesDone) ∷ []))
       (after .answer) (after .reader ≡ reader)
   pub swap : (s t : List ℕ) (w : Writer)
       → let p = pageOf s in

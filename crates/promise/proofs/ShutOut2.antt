@@ -3,7 +3,7 @@
 use Prim.Native.Nat.{ℕ, suc, _+_, _-_, _^_, _≤_, _<_}
 use native.Mathlib.Omega.{arith}
 use mathlib.Core.Path.{_≡_, refl, sym, ap, _∙_}
-use mathlib.Core.Logic.{_≢_, ⊎-elim}
+use mathlib.Core.Logic.{⊎-elim}
 use mathlib.Core.Bool.{Bool, true, cond}
 use mathlib.Core.List.{List, [], _∷_, _++_, map}
 use lib.ListN.{length, getD, drop, replicate, length-replicate}
@@ -75,11 +75,6 @@ module _ (buffer : List ℕ) (long : length buffer ≡ 8192 + 256) (page : List 
   first = turn 0 early
 
   -- ---- one call
-
-  -- the operation doesn't refuse it
-  pub accepted-first : (r : Refusal) → emitted begun first .answer .outcome ≢ Refused r
-  unfolding madeBy
-  accepted-first r e = not-given r (waiting first) (fresh2 0 256 (omega arith) fit buffer long (first ∷ []) .1 .exact .0 (Refused r) .0 e)
 
   promised : (make : Emission) → FreshBy2 make
       → Promise 0 256 fresh (uncalled (begun .ring) (first ∷ [])) (madeBy make begun (first ∷ [])) (afterBy make begun (first ∷ []))

@@ -18,10 +18,6 @@ pub put-then : {l : List ℕ} {at : ℕ} {a m : List ℕ} {p : ℕ} {b k : List 
 put-then {l} {at} {a} {m} {p} {b} {k} {q} f g =
     record { bytes = g .bytes ∙ rw (f .bytes, f .place) (sym (sets-append a b l at)); place = rw length-append (omega arith) }
 
--- the next place said otherwise
-pub put-at : {l : List ℕ} {at : ℕ} {a m : List ℕ} {p q : ℕ} → Put l at a m p → q ≡ p → Put l at a m q
-put-at f same = record { bytes = f .bytes; place = omega arith }
-
 pub put-length : {l : List ℕ} {at : ℕ} {a m : List ℕ} {p : ℕ} → Put l at a m p → length m ≡ length l
 put-length {l} {at} {a} f = rw (f .bytes) (length-sets l at a)
 

@@ -16,7 +16,8 @@ use Rattle.console_rules.specs.Console.{emittedNumber, isRefused, recordOf, byt
 use Rattle.console_rules.proofs.Record.{bytes-length, read-back}
 use Rattle.console_rules.proofs.Calls.{refused-leaves, done-writes, record-read}
 use Rattle.history.specs.Ring.{Ring}
-use Rattle.promise.specs.Bytes.{Event, size, labelOf, State, consumed, Turn, emitted, left}
+use Rattle.promise.specs.Bytes.{Event, size, labelOf, State, consumed, Turn, left}
+use Rattle.promise.proofs.Opened.{emitted}
 use Rattle.promise.specs.Holds.{Holds}
 use Rattle.promise.specs.Demand2.{Given}
 use Rattle.promise.proofs.Given.{given-one}

@@ -9,7 +9,8 @@ use Rattle.create_rules.specs.Create.{created}
 use Rattle.console_rules.specs.Console.{createdNumber, emittedNumber, recordOf, bytesOf, Called}
 use Rattle.history.specs.Ring.{Ring, fresh, write}
 use Rattle.history.proofs.Ideal.{emit}
-use Rattle.promise.specs.Bytes.{Event, size, State, Turn, uncalled, emitted, left, Made, madeBy, made, afterBy, after}
+use Rattle.promise.specs.Bytes.{Event, size, State, Turn, uncalled, left, Made, madeBy, made, afterBy, after}
+use Rattle.promise.proofs.Opened.{emitted}
 use Rattle.promise.specs.Holds.{Holds}
 use Rattle.promise.specs.Demand2.{waiting, shown, zeros, createdState, Promise}
 use Rattle.promise.proofs.Demand2.{turn-step}

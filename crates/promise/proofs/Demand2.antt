@@ -16,9 +16,9 @@ use Rattle.history.specs.Calls.{Call, uses, accepts, used, droppedOf, accepted}
 use Rattle.history.proofs.Ideal.{call, calls}
 use Rattle.history.proofs.Ideal.{after as afterCalls}
 use Rattle.history.proofs.Demand2.{one2, demand2 as abstract2}
-use Rattle.promise.specs.Bytes.{Event, size, taken, encode, State, Turn, consumed, uncalled, emitted, left, Made, madeBy, made, afterBy, after, answerOf, callOf, acceptedOf, raises, outcomesOf}
+use Rattle.promise.specs.Bytes.{Event, size, taken, encode, State, Turn, consumed, uncalled, left, Made, madeBy, made, afterBy, after, answerOf, callOf, acceptedOf, raises, outcomesOf}
 use Rattle.promise.specs.Holds.{Holds}
-use Rattle.promise.proofs.Opened.{sound-of}
+use Rattle.promise.proofs.Opened.{sound-of, emitted}
 use Rattle.promise.specs.Demand2.{waiting, Exact, shown, Promise, Demand2, Undisturbed2}
 use Rattle.promise.proofs.Encoding.{encode-lengths, joined-length, joined-both}
 use Rattle.promise.proofs.Given.{given-exactly}

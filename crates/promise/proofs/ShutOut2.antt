@@ -29,9 +29,9 @@ use Rattle.run_rules.specs.Runs.{latest, older}
 use Rattle.history.specs.Ring.{fresh}
 use Rattle.history.proofs.Ideal.{emit}
 use Rattle.history.proofs.Ideal.{after as afterCalls}
-use Rattle.promise.specs.Bytes.{Event, size, encode, State, Turn, consumed, uncalled, Emission, madeBy, afterBy, after, emitted, called, raises}
+use Rattle.promise.specs.Bytes.{Event, size, encode, State, Turn, consumed, uncalled, Emission, madeBy, afterBy, after, called, raises}
 use Rattle.promise.specs.Holds.{Holds}
-use Rattle.promise.proofs.Opened.{sound-of}
+use Rattle.promise.proofs.Opened.{sound-of, emitted}
 use Rattle.promise.specs.Demand2.{Given, waiting, createdState, Promise, FreshBy2}
 use Rattle.promise.proofs.WrongEmissions.{refusingEmission, dropping, silent, moving, storingFirst, inventing, unraising, scribbling, ShutOut2}
 use Rattle.promise.proofs.Encoding.{encode-length}

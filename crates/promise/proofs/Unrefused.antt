@@ -11,7 +11,8 @@ use Rattle.history.proofs.Ideal.{emit}
 use Rattle.history.specs.Ring as answers
 use Rattle.history.specs.Calls.{uses, accepts}
 use Rattle.history.proofs.Demand2.{one2}
-use Rattle.promise.specs.Bytes.{Event, size, taken, Turn, emitted, left, madeBy}
+use Rattle.promise.specs.Bytes.{Event, size, taken, Turn, left, madeBy}
+use Rattle.promise.proofs.Opened.{emitted}
 use Rattle.promise.specs.Demand2.{Given, waiting, Unrefused2}
 use Rattle.promise.proofs.Demand2.{turn-step}
 

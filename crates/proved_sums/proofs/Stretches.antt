@@ -5,9 +5,9 @@ use mathlib.Core.Path.{_≡_, sym, ap, _∙_}
 use mathlib.Core.List.{List}
 use lib.ListN.{length, take, drop, length-drop}
 use lib.Seq.{take-append-le, drop-append-le, drop-drop}
-use Rattle.region_rules.specs.Region.{bytesAt, mapped}
+use Rattle.region_rules.specs.Region.{bytesAt}
 use Rattle.region_rules.proofs.Bytes.{bytes-take, bytes-drop}
-use Rattle.region_rules.proofs.Mapped.{bytes-mapped}
+use Rattle.region_rules.proofs.Mapped.{mapped, bytes-mapped}
 
 module _ (r : List ℕ) (c : ℕ) (long : length r ≡ 8192 + c) (some : 0 < c) where
   pub stretch : (p n : ℕ) → p % c + n ≤ c → bytesAt r c p n ≡ take n (drop (8192 + p % c) r)

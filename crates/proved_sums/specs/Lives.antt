@@ -10,8 +10,6 @@ use Rattle.inspect_rules.specs.{Inspect.walked, Inspect.inspected, declared.Sum
 use Rattle.history.specs.{Ring.Answer, Calls.Call}
 use Rattle.promise.specs.{Bytes.Event, Bytes.State, Bytes.Turn, Bytes.made, Bytes.after, Bytes.callOf, Demand2.createdState}
 
--- ---- the calls
-
 -- n bytes of a list from a place on, zeros behind its end
 unfoldable pub cut : ℕ → ℕ → List ℕ → List ℕ
 cut at zero l = []
@@ -44,8 +42,6 @@ module _ (given : ℕ → Turn) where
 
     abbrev pub answers : ℕ → List ℕ → List Answer
     answers capacity lengths = map (λ (k : Call Event). k .answer) (map callOf (made (createdState 3 (buffer capacity)) (turns 1 lengths)))
-
--- ---- what is shown
 
 -- what inspection answers of events with these sequences
 abbrev pub summaryOf : List ℕ → Summary

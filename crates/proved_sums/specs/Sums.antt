@@ -12,8 +12,6 @@ use Rattle.promise.specs.{Bytes.Event, Bytes.encode, Bytes.Turn, Swaps.swap, Sw
 use Rattle.comparison.specs.{Comparison.DemandBy3}
 use Rattle.proved_sums.specs.{Lives.paid, Lives.lived, Lives.answers, Lives.Shows}
 
--- ---- "the state goes on from line to line": the payload lengths up to each line
-
 abbrev pub one : List ℕ
 one = 32 ∷ 32 ∷ 32 ∷ 32 ∷ []
 
@@ -36,8 +34,6 @@ ten = 0 ∷ 0 ∷ 224 ∷ 224 ∷ []
 abbrev pub counted : ℕ → ℕ → ℕ → Writer
 counted last dropped overwritten = record { last = last; dropped = dropped; overwritten = overwritten }
 
--- ---- line 6
-
 abbrev pub standing : ℕ → ℕ → ℕ → Reader
 standing place last handed = record { «read_pos» = place; last = last; handed = handed; generation = 1 }
 
@@ -52,13 +48,9 @@ pub record Reads (ring out six seven : List ℕ) : Type 0 where
   pub second-missed : missed (readOut ring (standing 416 6 1) (six ++ drop 128 out) .answered .reader) ≡ 5
   pub third : readOut ring (standing 544 7 2) (seven ++ drop 128 out) ≡ answering readingEmpty (standing 544 7 2) (seven ++ drop 128 out)
 
--- ---- line 10
-
 -- no premise on size
 abbrev pub AnySize : ℕ → Event → Type 0
 AnySize c e = Unit {0}
-
--- ---- the table
 
 module _ (given : ℕ → Turn) where
   -- the bytes of the event that was given this sequence, with a payload of 96 bytes

@@ -122,7 +122,8 @@ module _ (cpu before : ℕ) (s : State) (ring : Ring Event) (h : Holds cpu befor
           bytes-are = ap (live (swap s t .new)) (sym says) ∙ exchanged .holds ∙ bytes-are;
           last-is = exchanged .last-same ∙ h .last-is;
           dropped-is = exchanged .dropped-same ∙ h .dropped-is;
-          overwritten-is = omega (arith, exchanged .balanced, exchanged .dropped-same, count, moved .overwritten, h .last-is, h .dropped-is, h .holding .counts);
+          overwritten-is =
+              omega (arith, exchanged .balanced, exchanged .dropped-same, count, moved .overwritten, h .last-is, h .dropped-is, h .holding .counts);
           holding = moved .holding;
         }
 
@@ -190,9 +191,9 @@ module _ (cpu before : ℕ) (s : State) (ring : Ring Event) (h : Holds cpu befor
               (idealSwaps size before room ring (h .holding) .kept);
           begins = begins;
           goes-on = demand2 cpu room (keeping kept ring) (swapped s t) begins;
-          newer = new-generation room whole fits later;
-          raised = old-generation room whole fits later;
-          told = exchanged room whole fits later .counter;
+          new-generation = new-generation room whole fits later;
+          old-generation = old-generation room whole fits later;
+          counter = exchanged room whole fits later .counter;
           frozen = retired-holds room whole fits later;
         }
 

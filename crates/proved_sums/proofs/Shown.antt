@@ -3,7 +3,7 @@ use Prim.Native.Nat.{ℕ, _^_, _<_}
 use native.Mathlib.Omega.{arith}
 use mathlib.Core.Path.{_≡_, refl, sym, ap, ap₂, _∙_}
 use mathlib.Core.List.{List, [], _∷_, map}
-use lib.ListN.{getD, length-map}
+use lib.ListN.{length-map}
 use Rattle.event_rules.specs.Event.{sequence}
 use Rattle.writer_rules.specs.declared.Writer.{Writer}
 use Rattle.inspect_rules.specs.declared.Inspected.the-variants as answers

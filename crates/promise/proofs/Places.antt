@@ -310,6 +310,9 @@ places s p is at = record {
   inspect = (stopping s p is at, stopped-there s p is at);
   swap = swaps-there s p is at;
   follow = follows-there s p is at;
-  emit = λ w label payload. (emit-stuck s p is at w label payload, emits-there s p is at w label payload);
-  read = reads-there s p is at;
+  emit = λ w label payload. (
+    λ e. let r = emit-stuck s p is at w label payload e in (r .0, r .1, r .2, r .3, omega (arith, r .4), r .5),
+    λ r. emits-there s p is at w label payload (r .0, r .1, r .2, r .3, omega (arith, r .4), r .5),
+  );
+  read = λ reader out e. let r = reads-there s p is at reader out e in (omega (arith, r .0), r .1);
 }

@@ -96,7 +96,8 @@ module _ (cpu : ℕ) where
       older-map (encode cpu) length room xs
       ∙ ap (λ (f : Numbered Event → ℕ). map (encode cpu) (older f room xs)) encode-lengths
 
-  pub encode-latest : (room : ℕ) (xs : List (Numbered Event)) → latest length room (map (encode cpu) xs) ≡ map (encode cpu) (latest (bytes size) room xs)
+  pub encode-latest : (room : ℕ) (xs : List (Numbered Event))
+      → latest length room (map (encode cpu) xs) ≡ map (encode cpu) (latest (bytes size) room xs)
   encode-latest room xs =
       latest-map (encode cpu) length room xs
       ∙ ap (λ (f : Numbered Event → ℕ). map (encode cpu) (latest f room xs)) encode-lengths
@@ -111,7 +112,8 @@ module _ (cpu : ℕ) where
     -- what is left when these have gone
     pub drop-older : drop (total (bytes size) gone) (joined (map (encode cpu) xs)) ≡ joined (map (encode cpu) rest)
     drop-older =
-        ap (λ (l : List (Numbered Event)). drop (total (bytes size) gone) (joined (map (encode cpu) l))) (older-latest (bytes size) (capacity - room) xs)
+        ap (λ (l : List (Numbered Event)). drop (total (bytes size) gone) (joined (map (encode cpu) l)))
+        (older-latest (bytes size) (capacity - room) xs)
         ∙ ap (λ (l : List (List ℕ)). drop (total (bytes size) gone) (joined l)) (map-append (encode cpu) gone rest)
         ∙ ap (drop (total (bytes size) gone)) (joined-append (map (encode cpu) gone) (map (encode cpu) rest))
         ∙ drop-at (joined (map (encode cpu) gone)) (joined (map (encode cpu) rest)) (total (bytes size) gone) (joined-length gone)

@@ -57,7 +57,12 @@ module _ (cpu capacity : ℕ) (s : List ℕ) (w : Writer) (ring : Ring Event) (h
   walked-kept = walked-all s (pageOf s) (sound-of h .order) events (h .bytes-are) whole
 
   pub holds-surveyed : surveyed s (pageOf s)
-      ≡ record { stop = pageOf s .«write_pos»; count = length (ring .kept); first = firstOf sequenceOf (ring .kept); last = lastOf sequenceOf 0 (ring .kept) }
+      ≡ record {
+        stop = pageOf s .«write_pos»;
+        count = length (ring .kept);
+        first = firstOf sequenceOf (ring .kept);
+        last = lastOf sequenceOf 0 (ring .kept);
+      }
   holds-surveyed =
       let first : firstOf sequence events ≡ firstOf sequenceOf (ring .kept) =
       encode-first cpu (h .narrow) (ring .kept) (omega (arith, h .holding .fits, holds-range)) (h .holding .rising)

@@ -71,7 +71,8 @@ module _ (s : List ℕ) (p : Page) (is : opened s ≡ opens.Page p) (at : ℕ) w
   place-is events up =
       omega (arith, ap length (up .split) ∙ length-append (joined events) (rest s p at), live-length s p, rest-length s p at, up .below, h .order)
 
-  module _ (events : List (List ℕ)) (behind : List ℕ) (split : live s p ≡ joined events ++ behind) (here : at ≡ p .«tail_pos» + length (joined events)) where
+  module _ (events : List (List ℕ)) (behind : List ℕ) (split : live s p ≡ joined events ++ behind)
+      (here : at ≡ p .«tail_pos» + length (joined events)) where
     lengths : p .«write_pos» - p .«tail_pos» ≡ length (joined events) + length behind
     lengths = sym (live-length s p) ∙ ap length split ∙ length-append (joined events) behind
 
@@ -92,11 +93,15 @@ module _ (s : List ℕ) (p : Page) (is : opened s ≡ opens.Page p) (at : ℕ) w
 
   -- ---- inspection
 
+  abbrev Told : Type 0
+  Told = inspected s ≡ inspects.Refused (refusal.Damaged at)
+
   abbrev Stopping : Type 0
   Stopping =
-      (events : List (List ℕ)) × UpTo s p events at × Rising sequence 0 events × (passable (p .«cpu_id») (lastOf sequence 0 events) (rest s p at) ≡ false)
+      (events : List (List ℕ)) × UpTo s p events at × Rising sequence 0 events
+      × (passable (p .«cpu_id») (lastOf sequence 0 events) (rest s p at) ≡ false)
 
-  stopping : inspected s ≡ inspects.Refused (refusal.Damaged at) → Stopping
+  stopping : Told → Stopping
   unfolding surveyed walked
   stopping e =
       ⊎-elim
@@ -118,7 +123,7 @@ module _ (s : List ℕ) (p : Page) (is : opened s ≡ opens.Page p) (at : ℕ) w
       ))
       (either (eqb (surveyed s p .stop) (p .«write_pos»)))
 
-  stopped-there : Stopping → inspected s ≡ inspects.Refused (refusal.Damaged at)
+  stopped-there : Stopping → Told
   unfolding surveyed walked
   stopped-there (events, up, rises, bad) =
       let run : walked s p ≡ events = cut-run (record { split = up .split; whole = (up .each, rises); stops = bad }) in
@@ -127,11 +132,11 @@ module _ (s : List ℕ) (p : Page) (is : opened s ≡ opens.Page p) (at : ℕ) w
       ∙ ap (λ (n : ℕ). inspects.Refused (refusal.Damaged n)) stop
 
   -- by the row that swap and follow ask too
-  by-row : damaged s p ≡ true → refusal.Damaged (surveyed s p .stop) ≡ refusal.Damaged at → inspected s ≡ inspects.Refused (refusal.Damaged at)
+  by-row : damaged s p ≡ true → refusal.Damaged (surveyed s p .stop) ≡ refusal.Damaged at → Told
   unfolding inspectedOn
   by-row met there = inspected-sound s p h ∙ stops inspects.Refused _ 0 (inspectionRow s p ∷ []) (refusal.Damaged at) (met, there)
 
-  swap-row : (t : List ℕ) (w : Writer) (turn : ℕ) → Stops turn (swapRows s p t w) (refusal.Damaged at) → inspected s ≡ inspects.Refused (refusal.Damaged at)
+  swap-row : (t : List ℕ) (w : Writer) (turn : ℕ) → Stops turn (swapRows s p t w) (refusal.Damaged at) → Told
   unfolding swapRows
   swap-row t w zero r = differ (cc (r .1))
   swap-row t w (suc zero) r = differ (cc (r .1 .1))
@@ -140,8 +145,7 @@ module _ (s : List ℕ) (p : Page) (is : opened s ≡ opens.Page p) (at : ℕ) w
   swap-row t w (suc (suc (suc (suc zero)))) r = differ (cc (r .1 .1 .1 .1 .1))
   swap-row t w (suc (suc (suc (suc (suc turn))))) r = absurd (r .1 .1 .1 .1 .1)
 
-  swaps-there : (t : List ℕ) (w : Writer) → exchange s t w .answer .outcome ≡ swaps.Refused (refusal.Damaged at)
-      → inspected s ≡ inspects.Refused (refusal.Damaged at)
+  swaps-there : (t : List ℕ) (w : Writer) → exchange s t w .answer .outcome ≡ swaps.Refused (refusal.Damaged at) → Told
   unfolding exchangeOn carriedOver
   swaps-there t w e =
       let row =
@@ -154,14 +158,14 @@ module _ (s : List ℕ) (p : Page) (is : opened s ≡ opens.Page p) (at : ℕ) w
       never true q = differ (cc)
       never false q = differ (cc)
 
-  follow-row : (reader : Reader) (turn : ℕ) → Stops turn (followRows s p reader) (refusal.Damaged at) → inspected s ≡ inspects.Refused (refusal.Damaged at)
+  follow-row : (reader : Reader) (turn : ℕ) → Stops turn (followRows s p reader) (refusal.Damaged at) → Told
   unfolding followRows
   follow-row reader zero r = differ (cc (r .1))
   follow-row reader (suc zero) r = differ (cc (r .1 .1))
   follow-row reader (suc (suc zero)) r = by-row (r .1 .1 .0) (r .1 .1 .1)
   follow-row reader (suc (suc (suc turn))) r = absurd (r .1 .1 .1)
 
-  follows-there : (reader : Reader) → followed s reader .answer ≡ attaches.Refused (refusal.Damaged at) → inspected s ≡ inspects.Refused (refusal.Damaged at)
+  follows-there : (reader : Reader) → followed s reader .answer ≡ attaches.Refused (refusal.Damaged at) → Told
   unfolding followedOn
   follows-there reader e =
       let row =
@@ -183,7 +187,8 @@ module _ (s : List ℕ) (p : Page) (is : opened s ≡ opens.Page p) (at : ℕ) w
     abbrev Stuck : Type 0
     Stuck =
         (wrongWriter w ≡ false) × Acceptable (p .capacity) (w .last) (p .«write_pos») size
-        × (events : List (List ℕ)) × UpTo s p events at × (p .capacity < p .«write_pos» + size - at) × (wellFormed (p .«cpu_id») (rest s p at) ≡ false)
+        × (events : List (List ℕ)) × UpTo s p events at × (p .capacity < p .«write_pos» + size - at)
+        × (wellFormed (p .«cpu_id») (rest s p at) ≡ false)
 
     abbrev says : AfterEmit → Type 0
     says a = a .answer .outcome ≡ emits.Refused (refusal.Damaged at)
@@ -197,16 +202,16 @@ module _ (s : List ℕ) (p : Page) (is : opened s ≡ opens.Page p) (at : ℕ) w
     unfolding acceptance
     ended-damaged walks.NoRoom q = differ (cc)
     ended-damaged (walks.Damaged position) q = cc
-    ended-damaged (walks.Room tail passed) q = by (disagrees w passed) (wakes (needWake s)) q
+    ended-damaged (walks.Room tail passed) q = by (disagrees w passed) q
       where
         told : (b : Bool) → accepting b ≡ emits.Refused (refusal.Damaged at) → walks.Room tail passed ≡ walks.Damaged at
         told true q = differ (cc)
         told false q = differ (cc)
 
-        by : (b c : Bool) → cond b (emitRefuse s w refusal.Disagree) (acceptance s p w (eventOf p w label payload) tail passed) .answer .outcome
+        by : (b : Bool) → cond b (emitRefuse s w refusal.Disagree) (acceptance s p w (eventOf p w label payload) tail passed) .answer .outcome
             ≡ emits.Refused (refusal.Damaged at) → walks.Room tail passed ≡ walks.Damaged at
-        by true c q = differ (cc)
-        by false c q = told (wakes (needWake s)) q
+        by true q = differ (cc)
+        by false q = told (wakes (needWake s)) q
 
     -- what that end tells of the bytes
     walk-stuck : wrongWriter w ≡ false → Acceptable (p .capacity) (w .last) (p .«write_pos») size → end ≡ walks.Damaged at → Stuck
@@ -258,7 +263,8 @@ module _ (s : List ℕ) (p : Page) (is : opened s ≡ opens.Page p) (at : ℕ) w
         let lengths : length (rest s p at) ≡ p .«write_pos» - at = rest-length s p at in
         let ends : end ≡ walks.Damaged at =
         ap (λ (bs : List ℕ). walkFrom (aimed (p .«cpu_id») (p .capacity) size) bs (p .«tail_pos») 0) (up .split)
-        ∙ walk-damaged (p .«cpu_id») (p .capacity) size events (rest s p at) (up .each) (omega (arith, up .below)) (omega (arith, up .below)) bad (p .«tail_pos») 0
+        ∙ walk-damaged (p .«cpu_id») (p .capacity) size events (rest s p at) (up .each)
+        (omega (arith, up .below)) (omega (arith, up .below)) bad (p .«tail_pos») 0
         ∙ ap walks.Damaged (place-is events up) in
         ap (λ (a : AfterEmit). a .answer .outcome)
         (emitCases.page-opened s w label payload p is
@@ -301,9 +307,12 @@ module _ (s : List ℕ) (p : Page) (is : opened s ≡ opens.Page p) (at : ℕ) w
 
 pub places : Places
 places s p is at = record {
-  inspection = (stopping s p is at, stopped-there s p is at);
+  inspect = (stopping s p is at, stopped-there s p is at);
   swap = swaps-there s p is at;
   follow = follows-there s p is at;
-  emit = λ w label payload. (emit-stuck s p is at w label payload, emits-there s p is at w label payload);
-  read = reads-there s p is at;
+  emit = λ w label payload. (
+    λ e. let r = emit-stuck s p is at w label payload e in (r .0, r .1, r .2, r .3, omega (arith, r .4), r .5),
+    λ r. emits-there s p is at w label payload (r .0, r .1, r .2, r .3, omega (arith, r .4), r .5),
+  );
+  read = λ reader out e. let r = reads-there s p is at reader out e in (omega (arith, r .0), r .1);
 }

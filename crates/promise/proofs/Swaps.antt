@@ -29,7 +29,7 @@ use Rattle.create_rules.specs.Create.{wrongSize}
 use Rattle.create_rules.proofs.Laws.{right-size}
 use Rattle.inspect_rules.specs.Inspect.{walked}
 use Rattle.inspect_rules.specs.declared.Survey.{Survey}
-use Rattle.swap_rules.specs.Swap.{AfterSwap, lastGeneration, exchanging, newRing, retired, carriedOver, exchangeOn}
+use Rattle.swap_rules.specs.Swap.{AfterSwap, lastGeneration, exchanging, newRing, retired, carriedOver, exchangeOn, exchange}
 use Rattle.swap_rules.specs.declared.SwapOutcome.{SwapOutcome}
 use Rattle.swap_rules.specs.declared.SwapOutcome.the-variants.{Refused}
 use Rattle.swap_rules.proofs.Facts.{Carriable}
@@ -53,6 +53,9 @@ module _ (cpu before : ℕ) (s : State) (ring : Ring Event) (h : Holds cpu befor
   abbrev p : Page
   p = pageOf (s .ring)
 
+  abbrev after : AfterSwap
+  after = exchange (s .ring) t (s .writer)
+
   -- a number of eight bytes
   holds-generation : p .generation < 2 ^ 64
   unfolding pageOf
@@ -75,7 +78,7 @@ module _ (cpu before : ℕ) (s : State) (ring : Ring Event) (h : Holds cpu befor
           ∙ omega (arith, h .last-is, h .dropped-is, h .overwritten-is, h .holding .counts);
     }
 
-    pub exchanged : Exchanged (s .ring) p (s .writer) (length t - 8192) (latest length (length t - 8192) (walked (s .ring) p)) (swap s t)
+    pub exchanged : Exchanged (s .ring) p (s .writer) (length t - 8192) (latest length (length t - 8192) (walked (s .ring) p)) after
     exchanged = swapped-sound (s .ring) p t (s .writer) (omega (arith, h .named, h .narrow)) carriable
 
     kept-is : latest length (length t - 8192) (walked (s .ring) p) ≡ map (encode cpu) (latest (bytes size) capacity (ring .kept))
@@ -83,11 +86,11 @@ module _ (cpu before : ℕ) (s : State) (ring : Ring Event) (h : Holds cpu befor
         ap₂ (λ (n : ℕ) (l : List (List ℕ)). latest length n l) size-is (walked-kept cpu before (s .ring) (s .writer) ring h)
         ∙ encode-latest cpu capacity (ring .kept)
 
-    done : swap s t ≡ carriedOver (s .ring) p t (s .writer)
+    done : after ≡ carriedOver (s .ring) p t (s .writer)
     done = carries (s .ring) t (s .writer) p carriable
 
     -- the new ring's pages are a blank ring's, but for the positions
-    new-small : Bytewise (swap s t .new)
+    new-small : Bytewise (after .new)
     unfolding carriedOver newRing
     new-small i low =
         let kept : List ℕ = joined (latest length (length t - 8192) (walked (s .ring) p)) in
@@ -97,7 +100,7 @@ module _ (cpu before : ℕ) (s : State) (ring : Ring Event) (h : Holds cpu befor
         (omega (arith, store-below kept empty (length t - 8192) 0 i (omega arith), blank-small (p .«cpu_id») (length t - 8192) (p .generation + 1) i)))
 
     -- the old one's are as they were, but for generation and counter
-    old-small : Bytewise (swap s t .old)
+    old-small : Bytewise (after .old)
     unfolding carriedOver retired
     old-small i low =
         subst (λ (r : AfterSwap). getD (r .old) i 0 < 256) (sym done)
@@ -112,16 +115,17 @@ module _ (cpu before : ℕ) (s : State) (ring : Ring Event) (h : Holds cpu befor
         let count : length (latest length (length t - 8192) (walked (s .ring) p)) ≡ length kept = ap length kept-is ∙ length-map kept (encode cpu) in
         record {
           narrow = h .narrow;
-          opens = opens-sound _ _ (subst (Sound (swap s t .new)) says (exchanged .sound));
+          opens = opens-sound _ _ (subst (Sound (after .new)) says (exchanged .sound));
           bytewise = new-small;
           named = sym (ap (λ (q : Page). q .«cpu_id») says) ∙ h .named;
           sized = sym (ap (λ (q : Page). q .capacity) says) ∙ size-is;
           tail-is = sym (ap (λ (q : Page). q .«tail_pos») says);
           write-is = sym (ap (λ (q : Page). q .«write_pos») says) ∙ omega (arith, ap length bytes-are, joined-length cpu kept);
-          bytes-are = ap (live (swap s t .new)) (sym says) ∙ exchanged .holds ∙ bytes-are;
-          last-is = exchanged .last-same ∙ h .last-is;
-          dropped-is = exchanged .dropped-same ∙ h .dropped-is;
-          overwritten-is = omega (arith, exchanged .balanced, exchanged .dropped-same, count, moved .overwritten, h .last-is, h .dropped-is, h .holding .counts);
+          bytes-are = ap (live (after .new)) (sym says) ∙ exchanged .holds ∙ bytes-are;
+          last-is = omega (arith, exchanged .last-same, h .last-is);
+          dropped-is = omega (arith, exchanged .dropped-same, h .dropped-is);
+          overwritten-is =
+              omega (arith, exchanged .balanced, exchanged .dropped-same, count, moved .overwritten, h .last-is, h .dropped-is, h .holding .counts);
           holding = moved .holding;
         }
 
@@ -130,13 +134,13 @@ module _ (cpu before : ℕ) (s : State) (ring : Ring Event) (h : Holds cpu befor
         let says = exchanged .frozen .says in
         record {
           narrow = h .narrow;
-          opens = opens-sound _ _ (subst (Sound (swap s t .old)) says (exchanged .frozen));
+          opens = opens-sound _ _ (subst (Sound (after .old)) says (exchanged .frozen));
           bytewise = old-small;
           named = sym (ap (λ (q : Page). q .«cpu_id») says) ∙ h .named;
           sized = sym (ap (λ (q : Page). q .capacity) says) ∙ h .sized;
           tail-is = sym (ap (λ (q : Page). q .«tail_pos») says) ∙ h .tail-is;
           write-is = sym (ap (λ (q : Page). q .«write_pos») says) ∙ h .write-is;
-          bytes-are = ap (live (swap s t .old)) (sym says) ∙ exchanged .unchanged ∙ h .bytes-are;
+          bytes-are = ap (live (after .old)) (sym says) ∙ exchanged .unchanged ∙ h .bytes-are;
           last-is = h .last-is;
           dropped-is = h .dropped-is;
           overwritten-is = h .overwritten-is;
@@ -154,9 +158,9 @@ module _ (cpu before : ℕ) (s : State) (ring : Ring Event) (h : Holds cpu befor
     kept-ring =
         let gone : List (Numbered Event) = older (bytes size) capacity (ring .kept) in
         let kept : List (Numbered Event) = latest (bytes size) capacity (ring .kept) in
-        let less : length gone ≡ length (ring .kept) - length kept =
+        let discarded : ring .overwritten + length gone ≡ keeping kept ring .overwritten =
         omega (arith, ap length (older-latest (bytes size) capacity (ring .kept)), length-append gone kept) in
-        λ i. record { kept = kept; tail = 0; last = ring .last; dropped = ring .dropped; overwritten = ring .overwritten + less i }
+        λ i. record { kept = kept; tail = 0; last = ring .last; dropped = ring .dropped; overwritten = discarded i }
 
   -- ---- the two that are left
 
@@ -175,7 +179,7 @@ module _ (cpu before : ℕ) (s : State) (ring : Ring Event) (h : Holds cpu befor
     unfolding lastGeneration
     later = omega (arith, eqb-false (p .generation) (2 ^ 64 - 1) left, holds-generation)
 
-    carried : swap s t ≡ carriedOver (s .ring) p t (s .writer)
+    carried : after ≡ carriedOver (s .ring) p t (s .writer)
     carried = done room whole fits later
 
     kept-promise : SwapPromise cpu before ring s t
@@ -189,9 +193,9 @@ module _ (cpu before : ℕ) (s : State) (ring : Ring Event) (h : Holds cpu befor
               (idealSwaps size before room ring (h .holding) .kept);
           begins = begins;
           goes-on = demand2 cpu room (keeping kept ring) (swapped s t) begins;
-          newer = new-generation room whole fits later;
-          raised = old-generation room whole fits later;
-          told = exchanged room whole fits later .counter;
+          new-generation = new-generation room whole fits later;
+          old-generation = old-generation room whole fits later;
+          counter = exchanged room whole fits later .counter;
           frozen = retired-holds room whole fits later;
         }
 
@@ -201,7 +205,7 @@ module _ (cpu before : ℕ) (s : State) (ring : Ring Event) (h : Holds cpu befor
   right : wrongWriter (s .writer) ≡ false
   right = holds-counted cpu before (s .ring) (s .writer) ring h
 
-  opens : swap s t ≡ exchangeOn (s .ring) p t (s .writer)
+  opens : after ≡ exchangeOn (s .ring) p t (s .writer)
   opens = on-sound (s .ring) t (s .writer) p (sound-of h)
 
   answers : outcome ≡ first ((wrongSize t, Size) ∷ (lastGeneration p, Generation) ∷ []) Refused (exchanging (wakes (needWake (s .ring))))

@@ -23,8 +23,9 @@ pub record UpTo (s : List ℕ) (p : Page) (events : List (List ℕ)) (at : ℕ) 
 
 pub record PlaceOf (s : List ℕ) (p : Page) (at : ℕ) : Type 0 where
   -- "every event well formed, each sequence above the one before, the first above 0 .. stops at the first bad place"
-  pub inspection : (inspected s ≡ inspectsRefused (Damaged at))
-      ↔ ((events : List (List ℕ)) × UpTo s p events at × Rising sequence 0 events × (passable (p .«cpu_id») (lastOf sequence 0 events) (rest s p at) ≡ false))
+  pub inspect : (inspected s ≡ inspectsRefused (Damaged at))
+      ↔ ((events : List (List ℕ)) × UpTo s p events at × Rising sequence 0 events
+      × (passable (p .«cpu_id») (lastOf sequence 0 events) (rest s p at) ≡ false))
   -- "10 by full inspection"
   pub swap : (t : List ℕ) (w : Writer) → exchange s t w .answer .outcome ≡ swapsRefused (Damaged at) → inspected s ≡ inspectsRefused (Damaged at)
   pub follow : (reader : Reader) → followed s reader .answer ≡ attachesRefused (Damaged at) → inspected s ≡ inspectsRefused (Damaged at)

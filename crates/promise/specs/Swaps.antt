@@ -38,9 +38,9 @@ pub record SwapPromise (cpu before : ℕ) (ring : Ring Event) (s : State) (t : L
   pub goes-on : (turns : List Turn)
       → Promise cpu (length t - 8192) (keeping kept ring) (uncalled (swapped s t .ring) turns) (made (swapped s t) turns) (after (swapped s t) turns)
   -- "same cpu_id, old generation + 1 .. the old ring's generation goes up by one, and its wake is done"
-  pub newer : pageOf (swap s t .new) .generation ≡ pageOf (s .ring) .generation + 1
-  pub raised : pageOf (swap s t .old) .generation ≡ pageOf (s .ring) .generation + 1
-  pub told : futexCounter (swap s t .old) ≡ cond (wakes (needWake (s .ring))) ((futexCounter (s .ring) + 1) % 2 ^ 32) (futexCounter (s .ring))
+  pub new-generation : pageOf (swap s t .new) .generation ≡ pageOf (s .ring) .generation + 1
+  pub old-generation : pageOf (swap s t .old) .generation ≡ pageOf (s .ring) .generation + 1
+  pub counter : futexCounter (swap s t .old) ≡ cond (wakes (needWake (s .ring))) ((futexCounter (s .ring) + 1) % 2 ^ 32) (futexCounter (s .ring))
   -- "The old ring is frozen": it holds what it held
   pub frozen : Holds cpu before (swap s t .old) (s .writer) ring
 
@@ -48,5 +48,6 @@ pub record SwapPromise (cpu before : ℕ) (ring : Ring Event) (s : State) (t : L
 abbrev pub Swaps : Type 0
 Swaps =
     (cpu before : ℕ) (ring : Ring Event) (s : State) → Holds cpu before (s .ring) (s .writer) ring → (t : List ℕ) →
-    (swap s t .answer .outcome ≡ first ((wrongSize t, Size) ∷ (lastGeneration (pageOf (s .ring)), Generation) ∷ []) Refused (exchanging (wakes (needWake (s .ring)))))
+    (swap s t .answer .outcome
+    ≡ first ((wrongSize t, Size) ∷ (lastGeneration (pageOf (s .ring)), Generation) ∷ []) Refused (exchanging (wakes (needWake (s .ring)))))
     × (((r : Refusal) → swap s t .answer .outcome ≢ Refused r) → SwapPromise cpu before ring s t)

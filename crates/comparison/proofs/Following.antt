@@ -28,7 +28,7 @@ use Rattle.promise.proofs.Created.{created-holds}
 use Rattle.promise.proofs.Demand2.{same-calls}
 use Rattle.promise.proofs.Generation.{generation-stays}
 use Rattle.promise.proofs.OneRead.{recordOf, attaches}
-use Rattle.comparison.specs.Emptying.{Watched, started, emission, Read, Empties, Emptied, emptying}
+use Rattle.comparison.specs.Emptying.{Watched, started, watchedEmission, Read, Empties, Emptied, emptying}
 use Rattle.comparison.proofs.NewlyAttached.{positive, empties}
 
 module _ (cpu capacity : ℕ) where
@@ -47,7 +47,7 @@ module _ (cpu capacity : ℕ) where
         since-is = refl;
       }
 
-  pub follows-emission : (b : Watched) (w : Ideal Event) (t : Turn) → Follows b w → Follows (emission b t) (idealEmission size capacity w (t .event))
+  pub follows-emission : (b : Watched) (w : Ideal Event) (t : Turn) → Follows b w → Follows (watchedEmission b t) (idealEmission size capacity w (t .event))
   unfolding calls afterCalls
   follows-emission b w t i =
       let same = same-calls cpu capacity (t ∷ []) (b .state) (w .ring) (i .holds) in

@@ -19,7 +19,7 @@ use Rattle.promise.proofs.Generation.{consumed-generation}
 use Rattle.promise.proofs.Reading.{reads-empty}
 use Rattle.promise.proofs.Unrefused.{unrefused2}
 use Rattle.promise.proofs.ShutOut2.{fit, early, event}
-use Rattle.comparison.specs.Emptying.{Watched, started, emission, Read, Empties, Emptied, NewlyAttachedBy}
+use Rattle.comparison.specs.Emptying.{Watched, started, watchedEmission, Read, Empties, Emptied, NewlyAttachedBy}
 use Rattle.comparison.specs.Comparison.{turn, Emission, Emptying, Half, Promise3, DemandBy3}
 use Rattle.comparison.proofs.WrongReads.{idle, refusingRead, atWrite, ShutOut3}
 use Rattle.comparison.proofs.Ends.{consumer, lent, enough, count}
@@ -33,7 +33,7 @@ module _ (buffer : List ℕ) (long : length buffer ≡ 8192 + 256) (any : Reader
   given = event 0 early
 
   abbrev stands : Watched
-  stands = emission begun (turn given consumer)
+  stands = watchedEmission begun (turn given consumer)
 
   begins : Follows 0 256 begun start
   begins = follows-start 0 256 (omega arith) fit buffer long any

@@ -78,8 +78,8 @@ pub record Watched : Type 0 where
 abbrev pub started : ℕ → List ℕ → Reader → Watched
 started cpu buffer any = record { state = createdState cpu buffer; reader = attached (afterCreate cpu buffer) any .reader; since = [] }
 
-abbrev pub emission : Watched → Turn → Watched
-emission w t = record { state = after (w .state) (t ∷ []); reader = w .reader; since = w .since ++ acceptedOf (made (w .state) (t ∷ [])) }
+abbrev pub watchedEmission : Watched → Turn → Watched
+watchedEmission w t = record { state = after (w .state) (t ∷ []); reader = w .reader; since = w .since ++ acceptedOf (made (w .state) (t ∷ [])) }
 
 -- an emptying of the ring as it stands: a read that always answers EMPTY breaks `longest`
 pub record Emptied (read : Read) (cpu capacity : ℕ) (w : Watched) : Type 0 where

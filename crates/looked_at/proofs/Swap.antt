@@ -11,7 +11,7 @@ use Rattle.page_rules.specs.declared.Page.{Page}
 use Rattle.writer_rules.specs.declared.Writer.{Writer}
 use Rattle.create_rules.specs.Create.{wrongSize}
 use Rattle.inspect_rules.specs.Inspect.{damaged}
-use Rattle.swap_rules.specs.Swap.{AfterSwap, refusedSwap, refuse, countDiffers, swapRows, retired, carriedOver, exchangeOn, exchange}
+use Rattle.swap_rules.specs.Swap.{AfterSwap, refusedSwap, refuseSwap, countDiffers, swapRows, retired, carriedOver, exchangeOn, exchange}
 use Rattle.looked_at.specs.LookedAt.{Agree, AgreeStill, MadeAlike}
 use Rattle.looked_at.proofs.Writes.{unwritten, and-then, agree-still, put-still, flag-same, notified-still}
 use Rattle.looked_at.proofs.Looks.{page-same, rows-same, walked-same, surveyed-same}
@@ -21,7 +21,7 @@ module _ {s t : List ℕ} (g : Agree s t) (new new′ : List ℕ) (long : length
   Agreeing a b =
       (b .answer ≡ a .answer) × AgreeStill s t (a .old) (b .old) × MadeAlike (λ r. a .answer ≡ refusedSwap r w) new new′ (a .new) (b .new)
 
-  refuse-agree : (r : Refusal) → Agreeing (refuse s new w r) (refuse t new′ w r)
+  refuse-agree : (r : Refusal) → Agreeing (refuseSwap s new w r) (refuseSwap t new′ w r)
   refuse-agree r = (refl, unwritten s t, inr (r, refl, refl, refl))
 
   swap-rows-same : (p : Page) → swapRows t p new′ w ≡ swapRows s p new w
@@ -42,9 +42,9 @@ module _ {s t : List ℕ} (g : Agree s t) (new new′ : List ℕ) (long : length
   unfolding exchangeOn
   on-agree p =
       rw (swap-rows-same p)
-      (answers-both Agreeing (refuse s new w) (refuse t new′ w) _ _ refuse-agree (carried-agree p) (swapRows s p new w))
+      (answers-both Agreeing (refuseSwap s new w) (refuseSwap t new′ w) _ _ refuse-agree (carried-agree p) (swapRows s p new w))
 
   pub exchange-agree : Agreeing (exchange s new w) (exchange t new′ w)
   unfolding exchange
   exchange-agree =
-      rw (rows-same g, page-same g) (answers-both Agreeing (refuse s new w) (refuse t new′ w) _ _ refuse-agree (on-agree (pageOf s)) (pageRows s))
+      rw (rows-same g, page-same g) (answers-both Agreeing (refuseSwap s new w) (refuseSwap t new′ w) _ _ refuse-agree (on-agree (pageOf s)) (pageRows s))

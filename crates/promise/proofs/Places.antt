@@ -51,7 +51,7 @@ use Rattle.reader_rules.specs.declared.Attachment.the-variants as attaches
 use Rattle.follow_rules.specs.Follow.{followRows, followedOn, followed}
 use Rattle.follow_rules.proofs.Cases as followCases
 use Rattle.swap_rules.specs.Swap.{AfterSwap, swapRows, exchanging, carriedOver, exchangeOn, exchange}
-use Rattle.swap_rules.specs.Swap.{refuse as swapRefuse}
+use Rattle.swap_rules.specs.Swap.{refuseSwap as swapRefuse}
 use Rattle.swap_rules.specs.declared.SwapOutcome.the-variants as swaps
 use Rattle.swap_rules.proofs.Cases as swapCases
 use Rattle.promise.specs.Demand2.{Acceptable}

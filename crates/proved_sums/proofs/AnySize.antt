@@ -19,7 +19,7 @@ use Rattle.promise.specs.Bytes.{Event, size, encode, Turn, madeBy, afterBy, mad
 use Rattle.promise.specs.Demand2.{NoneRefused}
 use Rattle.promise.proofs.Encoding.{encode-length}
 use Rattle.promise.proofs.Unrefused.{unrefused2}
-use Rattle.comparison.specs.Emptying.{Consumer, Watched, started, emission, Emptied}
+use Rattle.comparison.specs.Emptying.{Consumer, Watched, started, watchedEmission, Emptied}
 use Rattle.comparison.specs.Comparison.{Step, Emission, Emptying, NoLess, DemandBy3}
 use Rattle.comparison.proofs.NewlyAttached.{positive}
 use Rattle.comparison.proofs.Following.{Follows, follows-start, follows-emission, hands-latest}
@@ -52,7 +52,7 @@ steps (t ∷ ts) = Emission (t .event) (consumer t) (consumer t) ∷ steps ts
 
 abbrev along : Watched → List Turn → Watched
 along b [] = b
-along b (t ∷ ts) = along (emission b t) ts
+along b (t ∷ ts) = along (watchedEmission b t) ts
 
 abbrev idealAlong : ℕ → Ideal Event → List Turn → Ideal Event
 idealAlong capacity w [] = w
@@ -62,7 +62,7 @@ follows-along : (cpu capacity : ℕ) (ts : List Turn) (b : Watched) (w : Ideal E
     → Follows cpu capacity (along b ts) (idealAlong capacity w ts)
 follows-along cpu capacity [] b w i = i
 follows-along cpu capacity (t ∷ ts) b w i =
-    follows-along cpu capacity ts (emission b t) (idealEmission size capacity w (t .event)) (follows-emission cpu capacity b w t i)
+    follows-along cpu capacity ts (watchedEmission b t) (idealEmission size capacity w (t .event)) (follows-emission cpu capacity b w t i)
 
 module _ (cpu c C : ℕ) where
   -- what is said then, if no call is refused
@@ -74,7 +74,7 @@ module _ (cpu c C : ℕ) where
   unfolding madeBy afterBy
   said [] small large h H n = (n .0, n .1, n .2)
   said (t ∷ ts) small large h H n =
-      said ts (emission small t) (emission large t) (h .1) (H .1) (n (no-premise c (t .event)) (h .0, tt) (H .0, tt))
+      said ts (watchedEmission small t) (watchedEmission large t) (h .1) (H .1) (n (no-premise c (t .event)) (h .0, tt) (H .0, tt))
 
 module _ (given : ℕ → Turn) (buffer : ℕ → List ℕ) (sized : (capacity : ℕ) → length (buffer capacity) ≡ 8192 + capacity) where
   abbrev ts : List Turn

@@ -30,7 +30,7 @@ use Rattle.promise.proofs.Reading.{event-at, reads-event, reads-empty}
 use Rattle.promise.proofs.OneRead.{attaches as attach-held}
 use Rattle.promise.proofs.Encoding.{encode-length}
 use Rattle.proved_sums.specs.Lives.{cut, paid, lived, Shows}
-use Rattle.proved_sums.specs.Sums.{one, two, three, four, five, ten, standing, answering, Reads, bytesOf, AllSums}
+use Rattle.proved_sums.specs.Sums.{one, two, three, four, five, ten, standing, answering, Reads, numberedBytes, AllSums}
 use Rattle.proved_sums.proofs.Shown.{numbers, recordOf, shows}
 use Rattle.proved_sums.proofs.Lived.{reached, begins, first-generation, lived-holds, lived-shows, lived-answers, lived-generation}
 use Rattle.proved_sums.proofs.Stretches.{stretches}
@@ -42,14 +42,14 @@ module _ (given : ℕ → Turn) (buffer : ℕ → List ℕ) (sized : (capacity :
   abbrev event : ℕ → Numbered Event
   event n = record { sequence = n; event = paid 96 (given n .event) }
 
-  wraps : (take 96 (drop (8192 + 160) (lived given buffer 256 four .ring)) ≡ take 96 (bytesOf given 7))
-      × (take 32 (drop 8192 (lived given buffer 256 four .ring)) ≡ drop 96 (bytesOf given 7))
+  wraps : (take 96 (drop (8192 + 160) (lived given buffer 256 four .ring)) ≡ take 96 (numberedBytes given 7))
+      × (take 32 (drop 8192 (lived given buffer 256 four .ring)) ≡ drop 96 (numberedBytes given 7))
   unfolding allowed powerAmong emit latest older after cut
   wraps =
       let s : List ℕ = lived given buffer 256 four .ring in
       let h = lived-holds given buffer sized 256 refl four in
       let long : length s ≡ 8192 + 256 = sound-of h .long ∙ ap (λ (c : ℕ). 8192 + c) (h .sized) in
-      stretches s 256 long (omega arith) 416 96 32 (bytesOf given 7)
+      stretches s 256 long (omega arith) 416 96 32 (numberedBytes given 7)
       (event-at 3 256 s (lived given buffer 256 four .writer) (reached given buffer sized 256 four) h (event 6 ∷ []) (event 7) [] refl) (omega arith) (omega arith)
 
   -- ---- line 6
@@ -60,7 +60,7 @@ module _ (given : ℕ → Turn) (buffer : ℕ → List ℕ) (sized : (capacity :
       attach-held 3 256 (afterCreate 3 (buffer 256)) zeros fresh (begins given buffer sized 256 refl) old
       ∙ ap (λ (n : ℕ). record { answer = Done; reader = record { «read_pos» = 0; last = 0; handed = 0; generation = n } }) (first-generation given buffer sized 256 refl)
 
-  reads : (out : List ℕ) → 128 ≤ length out → Reads (lived given buffer 256 five .ring) out (bytesOf given 6) (bytesOf given 7)
+  reads : (out : List ℕ) → 128 ≤ length out → Reads (lived given buffer 256 five .ring) out (numberedBytes given 6) (numberedBytes given 7)
   unfolding allowed powerAmong emit latest older after cut
   reads out long =
       let s : List ℕ = lived given buffer 256 five .ring in
@@ -68,20 +68,20 @@ module _ (given : ℕ → Turn) (buffer : ℕ → List ℕ) (sized : (capacity :
       let ring : Ring Event = reached given buffer sized 256 five in
       let h : Holds 3 256 s w ring = lived-holds given buffer sized 256 refl five in
       let tail : pageOf s .«tail_pos» ≡ 288 = h .tail-is in
-      let six : length (bytesOf given 6) ≡ 128 = encode-length 3 (event 6) in
-      let next : List ℕ = bytesOf given 6 ++ drop 128 out in
+      let six : length (numberedBytes given 6) ≡ 128 = encode-length 3 (event 6) in
+      let next : List ℕ = numberedBytes given 6 ++ drop 128 out in
       let first : readOut s (standing 0 0 0) out ≡ answering (reading.Event 128) (standing 416 6 1) next =
       reads-event 3 256 s w ring h [] (event 6) (event 7 ∷ []) refl (omega arith) (standing 0 0 0) out (omega arith) (omega arith) (omega arith) (omega arith) long in
-      let second : readOut s (standing 416 6 1) next ≡ answering (reading.Event 128) (standing 544 7 2) (bytesOf given 7 ++ drop 128 out) =
+      let second : readOut s (standing 416 6 1) next ≡ answering (reading.Event 128) (standing 544 7 2) (numberedBytes given 7 ++ drop 128 out) =
       reads-event 3 256 s w ring h (event 6 ∷ []) (event 7) [] refl (omega arith) (standing 416 6 1) next (omega arith) (omega arith) (omega arith) (omega arith)
-      (omega (arith, length-append (bytesOf given 6) (drop 128 out), six))
-      ∙ ap (λ (l : List ℕ). answering (reading.Event 128) (standing 544 7 2) (bytesOf given 7 ++ l)) (drop-at (bytesOf given 6) (drop 128 out) 128 six) in
+      (omega (arith, length-append (numberedBytes given 6) (drop 128 out), six))
+      ∙ ap (λ (l : List ℕ). answering (reading.Event 128) (standing 544 7 2) (numberedBytes given 7 ++ l)) (drop-at (numberedBytes given 6) (drop 128 out) 128 six) in
       record {
         first = first;
         first-missed = ap (λ (o : AfterRead). missed (o .answered .reader)) first ∙ refl;
         second = second;
         second-missed = ap (λ (o : AfterRead). missed (o .answered .reader)) second ∙ refl;
-        third = reads-empty 3 256 s w ring h (standing 544 7 2) (bytesOf given 7 ++ drop 128 out) (omega arith) (omega arith) (omega arith)
+        third = reads-empty 3 256 s w ring h (standing 544 7 2) (numberedBytes given 7 ++ drop 128 out) (omega arith) (omega arith) (omega arith)
             (lived-generation given buffer sized 256 refl five);
       }
 

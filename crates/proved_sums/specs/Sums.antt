@@ -54,8 +54,8 @@ AnySize c e = Unit {0}
 
 module _ (given : ℕ → Turn) where
   -- the bytes of the event that was given this sequence, with a payload of 96 bytes
-  abbrev pub bytesOf : ℕ → List ℕ
-  bytesOf n = encode 3 (record { sequence = n; event = paid 96 (given n .event) })
+  abbrev pub numberedBytes : ℕ → List ℕ
+  numberedBytes n = encode 3 (record { sequence = n; event = paid 96 (given n .event) })
 
   pub record Sums (buffer : ℕ → List ℕ) : Type 0 where
     -- "Payload 32, four times: write 256, tail 0, kept 4."
@@ -66,14 +66,14 @@ module _ (given : ℕ → Turn) where
     pub line3 : Shows (lived given buffer 256 three) 256 192 416 (4 ∷ 5 ∷ 6 ∷ []) (counted 6 0 3)
     -- "Payload 96: tail 288, write 544, kept 6 and 7, overwritten 5; 96 bytes at data offset 160, 32 at 0."
     pub line4 : Shows (lived given buffer 256 four) 256 288 544 (6 ∷ 7 ∷ []) (counted 7 0 5)
-        × (take 96 (drop (8192 + 160) (lived given buffer 256 four .ring)) ≡ take 96 (bytesOf 7))
-        × (take 32 (drop 8192 (lived given buffer 256 four .ring)) ≡ drop 96 (bytesOf 7))
+        × (take 96 (drop (8192 + 160) (lived given buffer 256 four .ring)) ≡ take 96 (numberedBytes 7))
+        × (take 32 (drop 8192 (lived given buffer 256 four .ring)) ≡ drop 96 (numberedBytes 7))
     -- "Payload 97: DROPPED, last 8 = 2 + 1 + 5."
     pub line5 : (answers given buffer 256 five ≡ Done ∷ Done ∷ Done ∷ Done ∷ Done ∷ Done ∷ Done ∷ Dropped ∷ [])
         × Shows (lived given buffer 256 five) 256 288 544 (6 ∷ 7 ∷ []) (counted (2 + 1 + 5) 1 5)
     -- "A reader attached before line 1 now gets 6 (missed 5), 7 (missed 5), EMPTY."
     pub line6 : ((old : Reader) → attached (afterCreate 3 (buffer 256)) old ≡ record { answer = attachmentDone; reader = standing 0 0 0 })
-        × ((out : List ℕ) → 128 ≤ length out → Reads (lived given buffer 256 five .ring) out (bytesOf 6) (bytesOf 7))
+        × ((out : List ℕ) → 128 ≤ length out → Reads (lived given buffer 256 five .ring) out (numberedBytes 6) (numberedBytes 7))
     -- "Swapped to 512: tail 0, write 256, generation 2; the old page also shows 2."
     pub line7 : Shows (swapped (lived given buffer 256 five) (buffer 512)) 512 0 256 (6 ∷ 7 ∷ []) (counted 8 1 5)
         × (pageOf (swap (lived given buffer 256 five) (buffer 512) .new) .generation ≡ 2)

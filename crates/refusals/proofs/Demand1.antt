@@ -41,7 +41,7 @@ use Rattle.reader_rules.specs.declared.Attachment.{Attachment}
 use Rattle.reader_rules.specs.declared.Reading.{Reading}
 use Rattle.reader_rules.specs.declared.Reading.the-variants as reads
 use Rattle.follow_rules.specs.Follow.{followRows, followedOn, followed}
-use Rattle.swap_rules.specs.Swap.{AfterSwap, refuse, exchanging, swapRows, carriedOver, exchangeOn, exchange}
+use Rattle.swap_rules.specs.Swap.{AfterSwap, refuseSwap, exchanging, swapRows, carriedOver, exchangeOn, exchange}
 use Rattle.swap_rules.specs.declared.SwapOutcome.{SwapOutcome}
 use Rattle.swap_rules.specs.declared.SwapOutcome.the-variants as swaps
 use Rattle.console_rules.specs.Console.{createdNumber, inspectedNumber, emittedNumber, isRefused, recordOf, recordAfter, Called, refusedCall, recordRows, emitCall}
@@ -213,7 +213,7 @@ demand1 =
           let o : Outcomes AfterSwap SwapOutcome =
           record {
             answer = λ x. x .answer .outcome;
-            refuse = refuse s t w;
+            refuse = refuseSwap s t w;
             as-came = λ x. (x .old ≡ s) × (x .new ≡ t) × (x .answer .writer ≡ w);
             keep = λ r. (refl, refl, refl);
           } in

@@ -5,7 +5,8 @@ use lib.{ListN.length, ListN.drop}
 use Rattle.page_rules.specs.{Page.pageOf}
 use Rattle.create_rules.specs.{Create.afterCreate}
 use Rattle.writer_rules.specs.{declared.Writer.Writer}
-use Rattle.reader_rules.specs.{Attach.attached, Read.AfterRead, Read.readOut, declared.Reader.Reader, declared.Attached.Attached, declared.Attachment.the-variants.Done as attachmentDone, declared.Reading.the-variants.Empty as readingEmpty, declared.Reading.the-variants.Event as readingEvent}
+use Rattle.reader_rules.specs.{Attach.attached, Read.AfterRead, Read.readOut, declared.Reader.Reader, declared.Attached.Attached, declared.Attachment.the-variants.Done as attachmentDone}
+use Rattle.reader_rules.specs.declared.Reading.the-variants.{Empty as readingEmpty, Event as readingEvent}
 use Rattle.run_rules.specs.{Runs.lastOf, Runs.LongestRun}
 use Rattle.history.specs.{Ring.sequenceOf, Ring.Numbered, Ring.Ring}
 use Rattle.promise.specs.{Bytes.Event, Bytes.encode, Bytes.State, Bytes.consumed, Bytes.Turn, Bytes.made, Bytes.after, Bytes.acceptedOf, Holds.Holds, Demand2.createdState}
@@ -14,8 +15,6 @@ use Rattle.promise.specs.{Bytes.Event, Bytes.encode, Bytes.State, Bytes.consume
 pub record Consumer : Type 0 where
   pub page : List ℕ
   pub whole : length page ≡ 4096
-
--- ---- reading until EMPTY
 
 -- whatever reads: of the ring's bytes, the record and the output buffer it gives the answer, the record handed back and the buffer's bytes left
 abbrev pub Read : Type 0
@@ -66,8 +65,6 @@ NewlyAttachedBy attach =
 abbrev pub NewlyAttached : Type 0
 NewlyAttached = NewlyAttachedBy attached
 
--- ---- a ring with its one reader
-
 -- the ring's bytes and the writer's record, the reader's record, and the events accepted since the last emptying, told from the answers
 pub record Watched : Type 0 where
   pub state : State
@@ -90,10 +87,9 @@ pub record Emptied (read : Read) (cpu capacity : ℕ) (w : Watched) : Type 0 whe
   pub ended : Empties read (w .state .ring) (w .reader) (map (encode cpu) events) end
   -- of the events accepted since the last emptying, the longest run of latest ones that fits
   pub longest : LongestRun (λ (x : Numbered Event). length (encode cpu x)) capacity (w .since) events
-  -- missed is what the record says: "handed [goes up] by one, last becomes its sequence", for each event ..
+  -- missed is what the record says: "handed [goes up] by one, last becomes its sequence", for each event; and it is a true difference
   pub last : end .last ≡ lastOf sequenceOf (w .reader .last) events
   pub handed : end .handed ≡ w .reader .handed + length events
-  -- .. and last minus handed is a true difference
   pub counted : end .handed ≤ end .last
 
 -- the reader's record goes on from there

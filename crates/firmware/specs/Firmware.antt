@@ -5,7 +5,8 @@ use lib.{ListN.length, ListN.replicate, Dec.eqb}
 use Rattle.table_rules.specs.{declared.Refusal.the-variants.Spent, declared.Refusal.the-variants.Far, declared.Refusal.the-variants.Record}
 use Rattle.capacity_rules.specs.{Capacity.allowed}
 use Rattle.create_rules.specs.{Create.created, Create.afterCreate}
-use Rattle.emit_rules.specs.{Emit.AfterEmit, declared.Outcome.Outcome, declared.Outcome.the-variants.Done, declared.Outcome.the-variants.Wake, declared.Outcome.the-variants.Dropped, declared.Outcome.the-variants.Refused}
+use Rattle.emit_rules.specs.{Emit.AfterEmit, declared.Outcome.Outcome}
+use Rattle.emit_rules.specs.declared.Outcome.the-variants.{Done, Wake, Dropped, Refused}
 use Rattle.console_rules.specs.{Console.createdNumber, Console.recordOf, Console.bytesOf, Console.Called, Console.emitCall}
 use Rattle.history.specs.{Ring.fresh}
 use Rattle.promise.specs.{Bytes.consumed, Bytes.Turn, Bytes.uncalled, Bytes.left, Bytes.Made, Demand2.Promise}

@@ -24,7 +24,7 @@ use Rattle.promise.proofs.Encoding.{encode-lengths, joined-length, join
 use Rattle.promise.proofs.Given.{given-exactly}
 use Rattle.promise.proofs.Consumer.{elsewhere-number, consumed-elsewhere, consumed-holds, consumed-wake}
 use Rattle.promise.proofs.Layers.{layer, layer-length, layer-consumed, layer-none, layers}
-use Rattle.promise.proofs.Holds.{holds-opened, holds-inspected}
+use Rattle.promise.proofs.Holds.{holds-inspected}
 use Rattle.promise.proofs.Step.{Stepped, step}
 
 -- ---- a history, call by call
@@ -128,7 +128,6 @@ promised : (cpu capacity : ℕ) (beginning : Ring Event) (without : List ℕ) (c
     → Leaves cpu capacity end (write size beginning) without calls
     → Promise cpu capacity beginning without calls end
 promised cpu capacity beginning without calls end ring h longest exact last dropped written leaves = record {
-  opens = holds-opened cpu capacity (end .ring) (end .writer) ring h;
   kept = ring .kept;
   bytes = h .bytes-are;
   longest = longest;

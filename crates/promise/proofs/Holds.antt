@@ -7,9 +7,7 @@ use mathlib.Core.List.{List, map}
 use lib.ListN.{length, length-map}
 use Rattle.run_rules.specs.Runs.{lastOf, firstOf}
 use Rattle.capacity_rules.proofs.Laws.{allowed-range}
-use Rattle.page_rules.specs.Page.{pageOf, opened}
-use Rattle.page_rules.specs.declared.Page.{Page}
-use Rattle.page_rules.specs.declared.Opened.the-variants as opens
+use Rattle.page_rules.specs.Page.{pageOf}
 use Rattle.event_rules.specs.Event.{sequence}
 use Rattle.event_rules.proofs.Facts.{Whole}
 use Rattle.writer_rules.specs.Writer.{wrongWriter}
@@ -29,9 +27,6 @@ use Rattle.promise.proofs.Encoding.{encode-whole, encode-first}
 module _ (cpu capacity : ℕ) (s : List ℕ) (w : Writer) (ring : Ring Event) (h : Holds cpu capacity s w ring) where
   pub holds-range : (256 ≤ capacity) × (capacity ≤ 1048576)
   holds-range = let r = allowed-range (pageOf s .capacity) (sound-of h .fit) in (omega (arith, r .0, h .sized), omega (arith, r .1, h .sized))
-
-  pub holds-opened : opened s ≡ opens.Page (pageOf s)
-  holds-opened = h .opens
 
   -- refusal 7 doesn't meet the record
   pub holds-counted : wrongWriter w ≡ false

@@ -8,19 +8,18 @@ use lib.{ListN.length, ListN.getD}
 use Rattle.table_rules.specs.{declared.Refusal.Refusal, Refusals.paperNumber}
 use Rattle.word_rules.specs.{Fields.putAll}
 use Rattle.capacity_rules.specs.{Capacity.allowed}
-use Rattle.page_rules.specs.{Page.pageOf, Page.opened, Page.positions, Wake.futexCounter, Wake.wakes, declared.Opened.the-variants.Page as opensPage}
+use Rattle.page_rules.specs.{Page.pageOf, Page.positions, Wake.futexCounter, Wake.wakes}
 use Rattle.region_rules.specs.{Region.storeAt}
 use Rattle.event_rules.specs.{Run.joined}
 use Rattle.look_rules.specs.{Live.live}
 use Rattle.create_rules.specs.{Create.created, Create.afterCreate, declared.Created.the-variants.Done as createsDone}
-use Rattle.emit_rules.specs.{declared.Outcome.Outcome, declared.Outcome.the-variants.Done, declared.Outcome.the-variants.Wake, declared.Outcome.the-variants.Dropped, declared.Outcome.the-variants.Refused}
+use Rattle.emit_rules.specs.{declared.Outcome.Outcome}
+use Rattle.emit_rules.specs.declared.Outcome.the-variants.{Done, Wake, Dropped, Refused}
 use Rattle.inspect_rules.specs.{Inspect.inspected, declared.Inspected.the-variants.Whole}
 use Rattle.writer_rules.specs.{declared.Writer.Writer}
 use Rattle.run_rules.specs.{Runs.lastOf, Runs.firstOf, Runs.total, Runs.LongestRun}
 use Rattle.history.specs.{Ring.sequenceOf, Ring.Numbered, Ring.Ring, Ring.fresh, Ring.write, Calls.uses, Calls.used, Calls.droppedOf}
 use Rattle.promise.specs.{Bytes.Event, Bytes.size, Bytes.taken, Bytes.encode, Bytes.State, Bytes.consumed, Bytes.Turn, Bytes.uncalled, Bytes.Emission, Bytes.Made, Bytes.madeBy, Bytes.afterBy, Bytes.operation, Bytes.made, Bytes.after, Bytes.answerOf, Bytes.callOf, Bytes.acceptedOf, Bytes.raises, Bytes.outcomesOf, Holds.Holds}
-
--- ---- each call's answer
 
 -- numbers and positions are left, and the event isn't above half the capacity
 abbrev pub Acceptable : ℕ → ℕ → ℕ → ℕ → Type 0
@@ -53,8 +52,6 @@ abbrev pub NoneRefused : List Made → Type 0
 NoneRefused [] = Unit {0}
 NoneRefused (m ∷ ms) = ((r : Refusal) → m .answer .outcome ≢ Refused r) × NoneRefused ms
 
--- ---- the promise
-
 -- the ring without bytes that these events, the page and the record make up
 abbrev pub shown : List (Numbered Event) → State → Ring Event
 shown kept s = record {
@@ -67,8 +64,6 @@ shown kept s = record {
 
 -- of the calls made from a beginning, and of the bytes and the record after them; `without` is the ring as it would be without the calls
 pub record Promise (cpu capacity : ℕ) (beginning : Ring Event) (without : List ℕ) (calls : List Made) (end : State) : Type 0 where
-  -- refusals 1 to 6 don't meet the ring
-  pub opens : opened (end .ring) ≡ opensPage (pageOf (end .ring))
   pub kept : List (Numbered Event)
   -- "the bytes from tail to write position are exactly ..": header and payload of each, under the sequence that its call gave
   pub bytes : live (end .ring) (pageOf (end .ring)) ≡ joined (map (encode cpu) kept)
@@ -92,7 +87,7 @@ pub record Promise (cpu capacity : ℕ) (beginning : Ring Event) (without : List
   pub ring : end .ring ≡ putAll (storeAt without capacity (write size beginning) (joined (map (encode cpu) (acceptedOf calls))))
       (positions (pageOf (end .ring) .«write_pos») (pageOf (end .ring) .«tail_pos»)
       ++ (record { offset = 128; size = 4; content = (futexCounter without + total raises (outcomesOf calls)) % 2 ^ 32 } ∷ []))
-  -- so the promise can be given again from here
+  -- refusals 1 to 6 don't meet the ring, and the promise can be given again from here
   pub holds : Holds cpu capacity (end .ring) (end .writer) (shown kept end)
 
 -- from any beginning

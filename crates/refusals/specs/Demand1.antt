@@ -9,11 +9,14 @@ use Rattle.event_rules.specs.{Event.eventSize, Run.passable, declared.Walk.Walk
 use Rattle.event_rules.specs.declared.Walk.the-variants as walks
 use Rattle.look_rules.specs.{Live.rest}
 use Rattle.writer_rules.specs.{Writer.wrongWriter, declared.Writer.Writer}
-use Rattle.create_rules.specs.{Create.wrongSize, Create.created, Create.afterCreate, declared.Created.the-variants.Done as createsDone, declared.Created.the-variants.Refused as createsRefused}
+use Rattle.create_rules.specs.{Create.wrongSize, Create.created, Create.afterCreate}
+use Rattle.create_rules.specs.declared.Created.the-variants.{Done as createsDone, Refused as createsRefused}
 use Rattle.emit_rules.specs.{Emit.tooLarge, Emit.tooFar, Emit.disagrees, Emit.walkEnd, Emit.emission, declared.Label.Label}
 use Rattle.emit_rules.specs.declared.Outcome.the-variants as emits
-use Rattle.inspect_rules.specs.{Inspect.surveyed, Inspect.summary, Inspect.damaged, Inspect.inspected, declared.Inspected.the-variants.Refused as inspectsRefused, declared.Inspected.the-variants.Whole as inspectsWhole}
-use Rattle.reader_rules.specs.{Reader.miscounted, Reader.wrongReader, Attach.attached, Read.readingPlace, Read.readOut, declared.Reader.Reader, declared.Attachment.the-variants.Done as attachesDone, declared.Attachment.the-variants.Refused as attachesRefused}
+use Rattle.inspect_rules.specs.{Inspect.surveyed, Inspect.summary, Inspect.damaged, Inspect.inspected}
+use Rattle.inspect_rules.specs.declared.Inspected.the-variants.{Refused as inspectsRefused, Whole as inspectsWhole}
+use Rattle.reader_rules.specs.{Reader.miscounted, Reader.wrongReader, Attach.attached, Read.readingPlace, Read.readOut, declared.Reader.Reader}
+use Rattle.reader_rules.specs.declared.Attachment.the-variants.{Done as attachesDone, Refused as attachesRefused}
 use Rattle.reader_rules.specs.declared.Reading.the-variants as reads
 use Rattle.follow_rules.specs.{Follow.followed}
 use Rattle.swap_rules.specs.{Swap.lastGeneration, Swap.countDiffers, Swap.exchange}

@@ -23,7 +23,7 @@ while read -r file count; do
     [ "$(lines "crates/$file")" -eq "$count" ] || fail "$file has $(lines "crates/$file") lines, and not $count"
 done < <(grep -oE '`[a-z_]+/specs/[A-Za-z0-9]+\.antt` \([0-9]+\)' "$page" | sed -E 's/`(.*)` \((.*)\)/\1 \2/')
 
-# everything behind the statements is in it: all of specs/ but what measures, plays scripts and writes numbers, and but the lists of files
+# everything behind the statements is in it: all of specs/ but what measures, plays scripts and writes numbers as text, and but the lists of files
 for path in crates/*/specs/*.antt; do
     file=${path#crates/}
     case $file in

@@ -24,8 +24,9 @@ static uint8_t record[LAMIPEONGA_RECORD_BYTES];
 /* what the answers told, to be held against the record at the end */
 static unsigned long long stored, dropped;
 
-/* Every refusal ends here. It has changed no byte and would come again, so going on would lose events without a word. */
 #define NAMED(name) [LAMIPEONGA_##name] = #name
+
+/* Every refusal ends here. It has changed no byte and would come again, so going on would lose events without a word. */
 static int refused(const char *what, uint32_t answer)
 {
     static const char *const names[] = {
@@ -71,7 +72,7 @@ static int emit(const char *what, uint64_t timestamp, uint32_t event_type, const
         return 1;
     case LAMIPEONGA_DROPPED: /* it would be dropped again, so there is no second try; the number it used up shows readers the gap */
         dropped++;
-        printf("%s: dropped, larger than half the ring\n", what);
+        printf("%s: dropped, larger than half the capacity\n", what);
         return 1;
     default:
         return refused(what, answer);

@@ -10,6 +10,22 @@
  *   - A ring is one buffer of 8,192 + capacity bytes, LAMIPEONGA_RING_BYTES(capacity); a capacity is a power of two from 256 to 1,048,576.
  *   - While a call runs, nobody else writes its buffers. There are no barriers in here: a consumer on another processor needs the caller's.
  *
+ * The calls, in order; examples/firmware.c is such a program.
+ *   1. lamipeonga_create, once, and beside it a record of LAMIPEONGA_RECORD_BYTES zero bytes. A ring created anew wants its record zero again.
+ *   2. lamipeonga_emit for each event, every time with that same record, as the call before left it.
+ *   3. lamipeonga_inspect at any time between two calls: it changes nothing.
+ *
+ * What to do with an answer.
+ *   - DONE: go on.
+ *   - WAKE: the event is stored. Wake whoever waits at LAMIPEONGA_FUTEX_COUNTER_AT, which the call has moved already, and go on.
+ *   - DROPPED: count it, report it and go on. The same event would be dropped again; the number that it used up shows readers the gap.
+ *   - 1 to 17, refused: stop and report the number. No byte has changed, and the same call would be refused again.
+ *       SHORT, LENGTH, SIZE, RECORD: look at the lengths passed first.
+ *       MAGIC, VERSION, LAYOUT, POSITION, WRITER, DAMAGED, DISAGREE: no ring was created here, the record is another ring's, or someone else
+ *       wrote into ring or record.
+ *       SPENT, FAR: numbers or positions have run out. Keep the ring for its readers and create another.
+ * That older events were overwritten is no answer of its own: the record counts them.
+ *
  * One writer at a time. lamipeonga_emit gets the record that the call before left, and between calls nobody changes the ring but for the bytes
  * 4096 to 8191, which are the consumer's. Calls for different rings may run at the same time.
  *
@@ -24,6 +40,13 @@
 #ifdef __cplusplus
 extern "C" {
 #endif
+
+/* of this header: MAJOR goes up when a caller must be changed, MINOR when something is only added */
+#define LAMIPEONGA_VERSION_MAJOR 1
+#define LAMIPEONGA_VERSION_MINOR 0
+
+/* of a ring's bytes: the number at offset 8, 4 bytes; any other is refused, see LAMIPEONGA_VERSION below */
+#define LAMIPEONGA_FORMAT_VERSION 1
 
 /* what a call answers; a refusal (1 to 17) has changed no byte of any buffer */
 enum lamipeonga_answer {

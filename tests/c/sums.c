@@ -13,6 +13,7 @@ static void fresh(size_t capacity, uint16_t cpu_id)
 {
     lend(LAMIPEONGA_RING_BYTES(capacity), 0);
     expect_number("a fresh ring", LAMIPEONGA_DONE, create(cpu_id));
+    expect_number("the format's version", LAMIPEONGA_FORMAT_VERSION, number_at(ring[ARCHIVE] + 8, 4));
 }
 
 static uint32_t emit_payload(size_t bytes)

@@ -1,20 +1,74 @@
 #!/usr/bin/env bash
-# ./ring NAME [ARGS]: runs the program NAME, as in `./ring listing < examples/start.ring`. Works from any folder.
+# ./ring NAME [FILE]: runs the program NAME on FILE or else on standard input, as in `./ring listing examples/start.ring`. Works from any folder.
 # It is proved and built first where that hasn't been done since the code last changed; what is said of that goes to standard error.
 set -euo pipefail
 root=$(dirname "$(readlink -f "$0")")
 
+# stop STATUS WORDS: 2 where the command was given wrongly, 1 where it couldn't be carried out
+stop() {
+    echo "ring: $2" >&2
+    exit "$1"
+}
+
+is_program() { [[ $1 != */* ]] && [ -f "$root/crates/$1/src/main.rt" ]; }
+
+# a program that reads has the file `stdin`, which rt gives to it when it tries it
+takes_file() { [ -f "$root/crates/$1/stdin" ]; }
+
 usage() {
-    echo "usage: ./ring NAME [ARGS], where NAME is one of:" >&2
-    (cd "$root/crates" && for main in */src/main.rt; do echo "  ${main%%/*}"; done) >&2
-    exit 2
+    local main program file about
+    echo 'usage: ./ring NAME [FILE]: runs NAME with FILE as its standard input. NAME is one of:'
+    for main in "$root"/crates/*/src/main.rt; do
+        program=${main%/src/main.rt}
+        program=${program##*/}
+        file=''
+        takes_file "$program" && file=' [FILE]'
+        # the first sentence of the program's own first line
+        about=$(sed -n '1s|^// ||p' "$main")
+        about=${about%%. *}
+        printf '  %-15s  %s\n' "$program$file" "${about%.}"
+    done
 }
 
 name=${1:-}
-if [ -z "$name" ] || [ ! -f "$root/crates/$name/src/main.rt" ]; then
+case $name in
+'')
+    usage >&2
+    exit 2
+    ;;
+-h | --help)
     usage
+    exit
+    ;;
+esac
+if ! is_program "$name"; then
+    echo "ring: there is no program '$name'" >&2
+    usage >&2
+    exit 2
 fi
 shift
+
+# All that can be seen to be wrong is said before anything is proved. The programs can't say it: to them an input that can't be read is an empty one.
+if takes_file "$name"; then
+    [ $# -le 1 ] || stop 2 "$name takes one FILE at most"
+else
+    [ $# -eq 0 ] || stop 2 "$name takes no FILE"
+fi
+command -v rt >/dev/null || stop 1 "the Rattle kit is missing: there is no rt on the PATH"
+if [ $# -eq 1 ]; then
+    [ ! -d "$1" ] || stop 1 "$1: Is a directory"
+    if ! { exec <"$1"; } 2>/dev/null; then
+        # the system's own reason, from the end of what bash says
+        reason=$({ : <"$1"; } 2>&1) || true
+        stop 1 "$1: ${reason##*: }"
+    fi
+fi
+if takes_file "$name"; then
+    { : 3<&0; } 2>/dev/null || stop 1 "standard input is closed"
+    # reads no byte, and fails where none could be read
+    read -r -n 0 2>/dev/null || stop 1 "${1:-standard input} can't be read"
+fi
+{ : 3>&1; } 2>/dev/null || stop 1 "standard output is closed"
 
 # set when the last build began: a file changed since then is newer
 mark=$root/target/ring/$name
@@ -22,14 +76,50 @@ is_built() {
     [ -x "$root/target/bin/$name" ] && [ -f "$mark" ] && [ -z "$(find "$root/crates" "$root/crates.txt" -newer "$mark" -print -quit)" ]
 }
 
+# The crates that have to be proved: NAME and all below it. Each stands on those above it in crates.txt alone, so one pass from the end meets them all.
+count_crates() {
+    tac "$root/crates.txt" | awk -F '[: \t]+' -v name="$name" '
+        BEGIN { wanted[name] }
+        { sub(/#.*/, "") }
+        $1 != "" && $1 in wanted { count++; for (i = 2; i <= NF; i++) wanted[$i] }
+        END { print count + 0 }'
+}
+
+# progress ALL: of what rt says, each crate that is proved as a line with a count. What a crate is made of is left out (target/log has it); the rest is
+# passed on, so that no error is hidden.
+progress() {
+    local line crate count=0
+    while IFS= read -r line; do
+        case $line in
+        'rt: '*' proved ('*)
+            crate=${line#rt: }
+            count=$((count + 1))
+            echo "ring: $count of $1 proved: ${crate%% *}"
+            ;;
+        'fn '*': proved' | 'logic /'* | 'logic=proved '* | 'library '* | 'axioms libc: '* | 'linked target='*) ;;
+        *) printf '%s\n' "$line" ;;
+        esac
+    done
+}
+
 if ! is_built; then
-    echo "ring: proving and building $name; from nothing this takes some minutes" >&2
+    all=$(count_crates)
+    echo "ring: proving and building $name, $all crates; from nothing this takes some minutes" >&2
     mkdir -p "$(dirname "$mark")"
     touch "$mark.begun"
-    if ! (cd "$root" && rt check "$name") </dev/null >&2; then
-        echo "ring: $name isn't built" >&2
-        exit 1
+    if ! (cd "$root" && rt check "$name" 2>&1) </dev/null | progress "$all" >&2; then
+        stop 1 "$name isn't built"
     fi
     mv "$mark.begun" "$mark"
 fi
-exec "$root/tests/run-program" "$name" "$@"
+
+# A program doesn't see whether its output could be written either. cat does.
+ended=(0 0)
+"$root/tests/run-program" "$name" | cat 2>/dev/null || ended=("${PIPESTATUS[@]}")
+case ${ended[1]} in
+0) ;;
+# a reader that has had enough, such as head, is no fault
+141) exit 141 ;;
+*) stop 1 "standard output can't be written" ;;
+esac
+[ "${ended[0]}" -eq 0 ] || stop 1 "$name ended with status ${ended[0]}"

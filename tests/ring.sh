@@ -1,0 +1,145 @@
+#!/usr/bin/env bash
+# Runs ./ring as people run it, by mistake too, and compares its status and what it writes to standard output and standard error.
+# It is run in a copy that holds the built programs (rt check), in a folder with a space in its name, so that nothing is proved here and no mark of a
+# build is left in the tree.
+set -uo pipefail
+cd "$(dirname "$(readlink -f "$0")")/.."
+# the system's reasons are compared too
+export LC_ALL=C
+work=$(mktemp -d)
+trap 'rm -r "$work"' EXIT
+copy="$work/a pool"
+
+tried=0
+failed=0
+fail() {
+    echo "ring: $1" >&2
+    failed=$((failed + 1))
+}
+
+# try WHAT STATUS OUTPUT ERRORS COMMAND: COMMAND is run in the copy
+try() {
+    local status=0
+    tried=$((tried + 1))
+    (cd "$copy" && eval "$5") </dev/null >"$work/output" 2>"$work/errors" || status=$?
+    [ "$status" -eq "$2" ] || fail "$1: status $status, not $2"
+    diff <(printf '%s' "${3:+$3$'\n'}") "$work/output" >&2 || fail "$1: another output"
+    diff <(printf '%s' "${4:+$4$'\n'}") "$work/errors" >&2 || fail "$1: other words on standard error"
+}
+
+export kit logs=$PWD/target/log
+if ! kit=$(command -v rt); then
+    echo "ring: there is no rt on the PATH" >&2
+    exit 1
+fi
+mkdir -p "$copy/tests" "$copy/examples" "$copy/target/bin" "$copy/target/ring" "$copy/crates/word/src"
+cp ring "$copy"
+cp tests/run-program "$copy/tests"
+cp examples/*.ring "$copy/examples"
+cp examples/start.ring "$copy/the first start.ring"
+for name in listing replay sums; do
+    if ! cp "target/bin/$name" "$copy/target/bin"; then
+        echo "ring: $name isn't built" >&2
+        exit 1
+    fi
+    mkdir -p "$copy/crates/$name/src"
+done
+echo '// Lists a ring. This is not shown.' >"$copy/crates/listing/src/main.rt"
+echo '// Plays a script (README.md).' >"$copy/crates/replay/src/main.rt"
+echo '// Works sums' >"$copy/crates/sums/src/main.rt"
+touch "$copy/crates/listing/stdin" "$copy/crates/replay/stdin" "$copy/crates/word/src/lib.rt"
+cat >"$copy/crates.txt" <<'END'
+# listing stands on three of these
+table_rules:
+word_rules: # a word
+word: word_rules
+text: word
+
+table: table_rules
+listing: text io libc
+END
+touch "$copy"/target/ring/{listing,replay,sums}
+
+start=$(cat tests/listing/start.txt)
+usage="usage: ./ring NAME [FILE]: runs NAME with FILE as its standard input. NAME is one of:
+  listing [FILE]   Lists a ring
+  replay [FILE]    Plays a script (README.md)
+  sums             Works sums"
+
+try 'a file' 0 "$start" '' './ring listing examples/start.ring'
+try 'a refusal' 0 "$(cat tests/listing/damaged.txt)" '' './ring listing examples/damaged.ring'
+try 'standard input' 0 "$start" '' './ring listing <examples/start.ring'
+try 'a pipe' 0 "$start" '' 'cat examples/start.ring | ./ring listing'
+try 'a pipe by name' 0 "$start" '' './ring listing <(cat examples/start.ring)'
+try 'a file with spaces' 0 "$start" '' './ring listing "the first start.ring"'
+try 'another folder' 0 "$start" '' 'cd examples && ../ring listing start.ring'
+try 'the whole path' 0 "$start" '' 'cd / && "$copy/ring" listing "$copy/examples/start.ring"'
+try 'a link' 0 "$start" '' 'ln -s "$copy/ring" "$work/link" && "$work/link" listing examples/start.ring'
+try 'a script' 0 unknown '' 'echo nothing >script && ./ring replay script'
+try 'sums' 0 "$(cat crates/sums/stdout)" '' './ring sums'
+try 'sums with no input' 0 "$(cat crates/sums/stdout)" '' './ring sums <&-'
+# where whoever runs this has the signal ignored, it is set back
+try 'a reader that stops' 141 '' '' 'env --default-signal=PIPE ./ring sums | :; exit "${PIPESTATUS[0]}"'
+
+try 'no word' 2 '' "$usage" './ring'
+try 'help' 0 "$usage" '' './ring --help'
+try 'a wrong word' 2 '' "ring: there is no program 'nosuch'"$'\n'"$usage" './ring nosuch'
+try 'a library' 2 '' "ring: there is no program 'word'"$'\n'"$usage" './ring word'
+try 'a path' 2 '' "ring: there is no program 'word/../listing'"$'\n'"$usage" './ring word/../listing'
+try 'two files' 2 '' 'ring: listing takes one FILE at most' './ring listing examples/start.ring examples/empty.ring'
+try 'a file for sums' 2 '' 'ring: sums takes no FILE' './ring sums examples/start.ring'
+try 'no such file' 1 '' 'ring: no such.ring: No such file or directory' './ring listing "no such.ring"'
+try 'a folder' 1 '' 'ring: examples: Is a directory' './ring listing examples'
+# root reads every file, so this one is for others
+if [ "$(id -u)" -ne 0 ]; then
+    try 'a file without permission' 1 '' 'ring: shut.ring: Permission denied' 'touch shut.ring && chmod 0 shut.ring && ./ring listing shut.ring'
+fi
+try 'a closed input' 1 '' 'ring: standard input is closed' './ring listing <&-'
+try 'a folder as input' 1 '' "ring: standard input can't be read" './ring listing <examples'
+try 'an input for writing' 1 '' "ring: standard input can't be read" './ring replay 0>written'
+try 'a closed output' 1 '' 'ring: standard output is closed' './ring listing examples/start.ring >&-'
+try 'a full output' 1 '' "ring: standard output can't be written" './ring listing examples/start.ring >/dev/full'
+try 'a full output of sums' 1 '' "ring: standard output can't be written" './ring sums >/dev/full'
+mkdir "$work/tools"
+ln -s "$(command -v bash)" "$(command -v dirname)" "$(command -v readlink)" "$work/tools"
+try 'no kit' 1 '' 'ring: the Rattle kit is missing: there is no rt on the PATH' 'PATH=$work/tools ./ring listing examples/start.ring'
+
+# Building, with an rt that says what the kit's own said when it last proved these crates. It reads what it is given, which mustn't be the program's
+# input, and wants to stand where crates.txt is, as the kit's does.
+mkdir "$work/bin"
+cat >"$work/bin/rt" <<'END'
+#!/usr/bin/env bash
+case $* in
+'check listing') cat >/dev/null && [ -f crates.txt ] && cd "$logs" && cat word_rules.out word.out text.out listing.out ;;
+check*) echo "rt: $2 NOT PROVED (exit 1, 2 s)" >&2 && exit 1 ;;
+*) exec "$kit" "$@" ;;
+esac
+END
+chmod +x "$work/bin/rt"
+PATH=$work/bin:$PATH
+rm "$copy"/target/ring/*
+begins='from nothing this takes some minutes'
+built="ring: proving and building listing, 4 crates; $begins
+ring: 1 of 4 proved: word_rules
+ring: 2 of 4 proved: word
+ring: 3 of 4 proved: text
+ring: 4 of 4 proved: listing"
+try 'the first run' 0 "$start" "$built" 'cd examples && ../ring listing <start.ring'
+try 'the second run' 0 "$start" '' './ring listing examples/start.ring'
+try 'changed code' 0 "$start" "$built" 'touch crates/word/src/lib.rt && ./ring listing examples/start.ring'
+echo 'sums: word' >>"$copy/crates.txt"
+not_built="ring: proving and building sums, 3 crates; $begins
+rt: sums NOT PROVED (exit 1, 2 s)
+ring: sums isn't built"
+try 'not proved' 1 '' "$not_built" './ring sums'
+try 'not proved, again' 1 '' "$not_built" './ring sums'
+
+# the programs of the tree itself, each with a word on what it does
+tried=$((tried + 1))
+named=$(./ring 2>&1 | sed -n 's/^  \([a-z_]*\( \[FILE\]\)\?\)  *[A-Z].*/\1/p')
+[ "$named" = $'listing [FILE]\nreplay [FILE]\nsums' ] || fail "the programs are named as: $named"
+
+if [ "$failed" -ne 0 ]; then
+    exit 1
+fi
+echo "ring: $tried commands answered as expected"

@@ -27,6 +27,9 @@ for ring in examples/*.ring tests/listing/*.ring; do
     fi
 done
 
+# the stored rings are those that were put together from the paper's tables
+python3 tests/make-rings.py --check || fail "a stored ring is another than make-rings.py makes"
+
 texts=$(ls tests/listing/*.txt | wc -l)
 if [ "$texts" -ne $((compared + failed)) ]; then
     fail "$texts texts are stored, $((compared + failed)) rings were met"

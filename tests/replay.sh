@@ -33,6 +33,11 @@ compare 'the longest' "$work/longest" "$work/longest.answers"
 : > "$work/none"
 compare 'no byte' "$work/none" "$work/none"
 
+# the second implementation's own tests, and what it says of the stored set
+if ! (cd "$tests/second" && cargo test --quiet --release --offline >"$work/own" 2>&1); then
+    wrong=$((wrong + 1))
+    cat "$work/own"
+fi
 if (cd "$tests/second" && cargo build --quiet --release --offline && target/release/second check stored); then
     echo 'the stored set is made again the same'
 else

@@ -96,7 +96,9 @@ progress() {
             count=$((count + 1))
             echo "ring: $count of $1 proved: ${crate%% *}"
             ;;
-        'fn '*': proved' | 'logic /'* | 'logic=proved '* | 'library '* | 'axioms libc: '* | 'linked target='*) ;;
+        'fn '*': proved' | 'struct '*': proved' | 'enum '*': proved' | 'logic /'* | 'logic=proved '* | 'library '* | 'axioms libc: '* | 'linked target='*) ;;
+        # said of a crate of rules, and of a proof that took long
+        'note: no function with a body is declared'* | *'.antt:'*': note: '*) ;;
         *) printf '%s\n' "$line" ;;
         esac
     done

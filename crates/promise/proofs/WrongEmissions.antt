@@ -1,4 +1,4 @@
--- Wrong emissions by name, and that none of them meets the second demand as a statement: `Only2` says it of all others.
+-- Wrong emissions by name, and that none of them meets the second demand as a statement: `Only2` says it of all that differ after some history.
 use Prim.Native.Nat.{ℕ, _+_, _<_}
 use mathlib.Core.{Bool.cond}
 use lib.{ListN.length, ListN.set, Dec.eqb}

@@ -133,7 +133,7 @@ Unrefused2 =
 abbrev pub Alike : List Made → State → List Made → State → Type 0
 Alike calls one others other = (outcomesOf calls ≡ outcomesOf others) × (one ≡ other)
 
--- no emission but the operation's own meets the demand: whatever does gives, on every fresh ring and after every history, the same
+-- whatever meets the demand gives what the operation does, on every fresh ring and after every history; on rings that none reaches it may differ
 abbrev pub Only2 : Type 0
 Only2 =
     (make : Emission) → FreshBy2 make →

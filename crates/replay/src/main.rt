@@ -1,22 +1,16 @@
 // Plays a script of calls on rings, of at most 1 MiB on standard input, and answers each line by a line (tests/second/README.md, "A script").
-mod adler;
-mod command;
-mod memory;
 mod play;
-mod records;
-mod ring;
 mod room;
-mod say;
-mod state;
 
-use room::buffer_room;
+use replay_state::room::buffer_room;
+use replay_state::say::words;
 use room::script_room;
 
 fn main() {
     let mut script = script_room();
     let n = io::read_full(0, &mut script);
     if n > 1048576 {
-        say::words(b"too long\n");
+        words(b"too long\n");
         return;
     }
     let mut first = buffer_room();

@@ -4,8 +4,8 @@ use lib.ListN.{length}
 use Rattle.text.proofs.Writing.{put-length}
 use Rattle.script.proofs.Pairs.{field-fits}
 use borrow.Author.Needs.{needs}
-use Rattle.replay.proofs.say.bytes.Statement.{statement}
-use Rattle.replay.proofs.say.bytes.Tie as tie
+use Rattle.replay_state.proofs.say.bytes.Statement.{statement}
+use Rattle.replay_state.proofs.say.bytes.Tie as tie
 
 returns : tie.Need-returns
 returns c = search needs

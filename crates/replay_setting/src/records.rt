@@ -1,10 +1,10 @@
 // The commands that set records: any numbers are taken.
-use crate::say::words;
-use crate::state::State;
-use crate::state::unknown;
-use crate::state::with_reader;
-use crate::state::with_writer;
 use reader_rules::Reader;
+use replay_state::say::words;
+use replay_state::state::State;
+use replay_state::state::unknown;
+use replay_state::state::with_reader;
+use replay_state::state::with_writer;
 use script::Parsed;
 use script::field::field;
 use script::number::number;

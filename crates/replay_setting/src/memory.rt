@@ -1,9 +1,9 @@
 // The commands on the bytes of one buffer: size, put, get.
-use crate::room::buffer_room;
-use crate::say;
-use crate::state::State;
-use crate::state::unknown;
-use crate::state::with_length;
+use replay_state::room::buffer_room;
+use replay_state::say;
+use replay_state::state::State;
+use replay_state::state::unknown;
+use replay_state::state::with_length;
 use script::Parsed;
 use script::field::field;
 use script::hex::hex;

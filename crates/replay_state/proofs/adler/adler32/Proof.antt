@@ -1,8 +1,8 @@
 use Prim.Native.Nat.{_-_, _≤_, _<_}
 use lib.ListN.{length}
 use borrow.Author.Needs.{needs}
-use Rattle.replay.proofs.adler.adler32.Statement.{statement}
-use Rattle.replay.proofs.adler.adler32.Tie as tie
+use Rattle.replay_state.proofs.adler.adler32.Statement.{statement}
+use Rattle.replay_state.proofs.adler.adler32.Tie as tie
 
 abbrev Inv-loop : tie.InvT-loop
 Inv-loop bytes low₀ high₀ i₀ low high i = (i ≤ length bytes) × (low < 65521) × (high < 65521)

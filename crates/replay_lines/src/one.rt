@@ -1,0 +1,72 @@
+// A line on one buffer, taken to the buffer that it names.
+use crate::command::Command;
+use replay_setting::memory;
+use replay_state::say;
+use replay_state::state::State;
+use replay_state::state::unknown;
+use script::field::field;
+use script::number::number_to;
+ghost use Prim.Native.Nat.{_≤_};
+
+// On the bytes of a buffer that are in use.
+fn on_ring(command: Command, line: &[u8], state: State, ring: &mut [u8], out: &mut [u8]) -> State {
+    match command {
+        Command::Put => memory::put(line, state, ring),
+        Command::Get => memory::get(line, state, ring),
+        Command::Sum => {
+            say::sum(ring);
+            state
+        }
+        Command::Create => replay_writing::create(line, state, ring),
+        Command::Emit => replay_writing::emit(line, state, ring),
+        Command::Emitlen => replay_writing::emitlen(line, state, ring),
+        Command::Inspect => {
+            replay_reading::inspect(ring);
+            state
+        }
+        Command::Attach => replay_reading::attach(line, state, ring),
+        Command::Read => replay_reading::read(line, state, ring, out),
+        Command::Follow => replay_reading::follow(line, state, ring),
+        _ => unknown(state),
+    }
+}
+
+// `size` alone has the whole buffer. No length is above the buffer's.
+fn on_buffer(
+    command: Command,
+    line: &[u8],
+    state: State,
+    b: usize,
+    buffer: &mut [u8],
+    out: &mut [u8],
+) -> State
+    requires { ⌜ b ≤ 3 ⌝ }
+{
+    if let Command::Size = command {
+        return memory::size(line, state, b, buffer);
+    }
+    let length = state.lengths[b];
+    if length > buffer.len() {
+        return unknown(state);
+    }
+    on_ring(command, line, state, &mut buffer[0..length], out)
+}
+
+pub fn on_one(
+    command: Command,
+    line: &[u8],
+    state: State,
+    first: &mut [u8],
+    second: &mut [u8],
+    third: &mut [u8],
+    fourth: &mut [u8],
+    out: &mut [u8],
+) -> State {
+    match number_to(field(line, 1), 3) {
+        0 => on_buffer(command, line, state, 0, first, out),
+        1 => on_buffer(command, line, state, 1, second, out),
+        2 => on_buffer(command, line, state, 2, third, out),
+        3 => on_buffer(command, line, state, 3, fourth, out),
+        _ => unknown(state),
+    }
+}

@@ -1,4 +1,4 @@
--- RULES 2.3, 2.4: two rings that differ in bytes alone that don't count get the same answers. Of any bytes s and t, a ring or not.
+-- RULES 2.3, 2.4: two rings that differ only in bytes that don't count get the same answers. Of any bytes s and t, a ring or not.
 use Prim.Native.Nat.{ℕ, _≤_, _<_}
 use mathlib.Core.{Path._≡_, Logic._⊎_, List.List}
 use lib.{ListN.length, ListN.getD}

@@ -1,7 +1,7 @@
 #!/usr/bin/env python3
 """make-rings.py [--check]: writes the rings that the listing is run on, or says which stored one differs.
 
-They are put together from document 01's tables alone, byte by byte: nothing here is taken from the project's code.
+They are put together from the tables of the papers alone (RULES 2.1 and 3.1), byte by byte: nothing here is taken from the project's code.
 """
 import struct
 import sys
@@ -40,7 +40,7 @@ def changed(base, at, new):
 
 PAYLOAD = bytes(range(96))
 SIX, SEVEN = event(6, 1000, 2, PAYLOAD), event(7, 2000, 3, PAYLOAD)
-# document 01, line 13 of its sums: event 7 has 96 bytes at data offset 160 and 32 at 0
+# RULES 9.1, line 13: event 7 has 96 bytes at data offset 160 and 32 at 0
 START = ring(256, 288, [SIX, SEVEN])
 
 RINGS = {

@@ -1,6 +1,7 @@
 #!/usr/bin/env bash
 # Holds docs/RULES.md to the tree and to itself: paragraphs are numbered by their section and upwards, each ends by naming the definitions that state it,
 # (`name`, `other`, `crate/specs/File.antt`; `third`, `crate/src/lib.rt`), or with (no definition), and every definition stands in the file it is said to.
+# And the tree to it: comments in the crates cite paragraphs that are there, and nothing cites the paper that isn't here.
 set -uo pipefail
 cd "$(dirname "$(readlink -f "$0")")/.."
 page=docs/RULES.md
@@ -22,6 +23,7 @@ section=0
 number=0
 paragraphs=0
 title=''
+titles=' '
 end=''
 # the paragraph before ends here: its last line names definitions, or says that there are none
 ended() {
@@ -40,6 +42,7 @@ while IFS= read -r line; do
         next=${BASH_REMATCH[2]}
         ended
         title=$within.$next
+        titles="$titles$title "
         [ "$within" -eq "$section" ] || fail "$title stands in section $section"
         [ "$next" -gt "$number" ] || fail "$title comes after $section.$number"
         number=$next
@@ -64,7 +67,27 @@ while read -r name file; do
 done < <(grep -oE '\(`[^()]*\.(antt|rt)`\)' "$page" | tr -d '()`' | sed 's/; /\n/g' |
     awk -F', ' '{ if (NF < 2) print "-", $NF; for (i = 1; i < NF; i++) print $i, $NF }' | sort -u)
 
+# a number N.M in a comment's line is a paragraph's; 5.1.7, v0.20 and 1,024 are none
+citations=0
+while read -r where number; do
+    citations=$((citations + 1))
+    [[ $titles == *" $number "* ]] || fail "$where cites $number, which is no paragraph"
+done < <(find crates/*/specs crates/*/src crates/*/proofs -type f \( -name '*.antt' -o -name '*.rt' \) -exec awk '
+    /^ *(--|\/\/)/ {
+        line = " " $0
+        while (match(line, /[0-9]+(\.[0-9]+)+/)) {
+            number = substr(line, RSTART, RLENGTH)
+            if (number ~ /^[0-9]+\.[0-9]+$/ && substr(line, RSTART - 1, 1) ~ /[ (]/) print FILENAME ":" FNR, number
+            line = substr(line, RSTART + RLENGTH)
+        }
+    }' {} +)
+[ "$citations" -ne 0 ] || fail "no comment cites a paragraph"
+
+while IFS= read -r where; do
+    fail "$where names the paper that isn't here; cite a paragraph"
+done < <(grep -rniE 'document[ -]0?1([^0-9]|$)' --exclude-dir=target --exclude=rules.sh crates tests docs bench include README.md CONTRIBUTING.md | cut -d: -f1,2)
+
 if [ "$failed" -ne 0 ]; then
     exit 1
 fi
-echo "rules: $paragraphs paragraphs, $definitions definitions, each where it is said to stand"
+echo "rules: $paragraphs paragraphs, $definitions definitions, each where it is said to stand; $citations citations in comments"

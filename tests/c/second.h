@@ -1,4 +1,4 @@
-/* A second implementation of create, emit and inspect, written from document 01 alone. The archive is compared with it. */
+/* A second implementation of create, emit and inspect. The archive is compared with it; second.c says what it was written from. */
 #ifndef SECOND_H
 #define SECOND_H
 

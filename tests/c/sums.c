@@ -1,4 +1,4 @@
-/* The sums that document 01 does by hand, as far as these three calls can do them: lines 1 to 5 on one ring, 10, 11 and 12. */
+/* RULES 9.1: the sums worked by hand, as far as these three calls can do them: lines 1 to 5 on one ring, 10, 11 and 12. */
 #include "sums.h"
 
 #include "lamipeonga.h"

@@ -1,4 +1,4 @@
-// Reading and the swap as C can call them, for the measurement in bench/ alone: the firmware has no such calls (document 01, "Callers").
+// RULES 8.2: the firmware has no such calls. Reading and the swap as C can call them, for the measurement in bench/ alone.
 // Records lie in bytes as the firmware's calls have them.
 use crate::reader_record::keep_reader;
 use crate::reader_record::reader_at;

@@ -71,7 +71,7 @@ pub record Watched : Type 0 where
   pub reader : Reader
   pub since : List (Numbered Event)
 
--- "with one writer and a reader attached at the start"
+-- a fresh ring with the zero record of its writer, and a reader attached before the first call
 abbrev pub started : ℕ → List ℕ → Reader → Watched
 started cpu buffer any = record { state = createdState cpu buffer; reader = attached (afterCreate cpu buffer) any .reader; since = [] }
 
@@ -87,7 +87,7 @@ pub record Emptied (read : Read) (cpu capacity : ℕ) (w : Watched) : Type 0 whe
   pub ended : Empties read (w .state .ring) (w .reader) (map (encode cpu) events) end
   -- of the events accepted since the last emptying, the longest run of latest ones that fits
   pub longest : LongestRun (λ (x : Numbered Event). length (encode cpu x)) capacity (w .since) events
-  -- missed is what the record says: "handed [goes up] by one, last becomes its sequence", for each event; and it is a true difference
+  -- 4.3, 7.5: missed is what the record says: last is that of the last event handed out, handed counts them all; and it is a true difference
   pub last : end .last ≡ lastOf sequenceOf (w .reader .last) events
   pub handed : end .handed ≡ w .reader .handed + length events
   pub counted : end .handed ≤ end .last

@@ -11,7 +11,7 @@ use Rattle.console_rules.specs.{Console.createdNumber, Console.recordOf, Consol
 use Rattle.history.specs.{Ring.fresh}
 use Rattle.promise.specs.{Bytes.consumed, Bytes.Turn, Bytes.uncalled, Bytes.left, Bytes.Made, Demand2.Promise}
 
--- "0 done, 1 to 17 refused, 20 DROPPED, 21 done with wake"; the promise shuts out any refusal but 8 and 9
+-- 8.3: what a number answered says; the promise shuts out any refusal but 8 and 9
 abbrev pub means : ℕ → Outcome
 means n = cond (eqb n 0) Done (cond (eqb n 20) Dropped (cond (eqb n 21) Wake
     (cond (eqb n 8) (Refused Spent) (cond (eqb n 9) (Refused Far) (Refused Record)))))

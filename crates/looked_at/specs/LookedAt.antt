@@ -1,4 +1,4 @@
--- "All else below 8192 is .. never looked at .. no answer depends on them but through byte 4096" (document 01). Of any bytes s and t, a ring or not.
+-- RULES 2.3, 2.4: two rings that differ only in bytes that don't count get the same answers. Of any bytes s and t, a ring or not.
 use Prim.Native.Nat.{ℕ, _≤_, _<_}
 use mathlib.Core.{Path._≡_, Logic._⊎_, List.List}
 use lib.{ListN.length, ListN.getD}
@@ -12,7 +12,7 @@ use Rattle.follow_rules.specs.{Follow.followed}
 use Rattle.swap_rules.specs.{Swap.refusedSwap, Swap.exchange}
 use Rattle.console_rules.specs.{Console.emitCall}
 
--- the bytes that count: those that the paper's table lists, with need_wake, and the data
+-- 2.3, 2.4: the bytes that count: the first 192, need_wake, and the data
 abbrev pub Counts : ℕ → Type 0
 Counts i = (i < 192) ⊎ ((i ≡ 4096) ⊎ (8192 ≤ i))
 

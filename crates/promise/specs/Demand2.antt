@@ -1,5 +1,5 @@
--- The second demand, of the bytes: "the bytes from tail to write position are exactly the longest run of latest accepted events that fits. Only an
--- event above half the capacity is dropped. The last number given out equals events kept, dropped and overwritten together."
+-- The second demand, of the bytes (docs/STATEMENTS.md, 2): from tail to write lies the longest run of latest accepted events that fits, and nothing
+-- else; nothing is dropped but what is above half the capacity; and last is made up of the events kept, dropped and overwritten.
 -- A history is any list of calls, so what holds after it holds at every point of every history. What was accepted and what was dropped is read off
 -- the calls' answers, what is kept off the bytes.
 use Prim.Native.Nat.{ℕ, _+_, _-_, _/_, _%_, _^_, _≤_, _<_}
@@ -65,15 +65,15 @@ shown kept s = record {
 -- of the calls made from a beginning, and of the bytes and the record after them; `without` is the ring as it would be without the calls
 pub record Promise (cpu capacity : ℕ) (beginning : Ring Event) (without : List ℕ) (calls : List Made) (end : State) : Type 0 where
   pub kept : List (Numbered Event)
-  -- "the bytes from tail to write position are exactly ..": header and payload of each, under the sequence that its call gave
+  -- 2.7: the ring's events, header and payload of each, under the sequence that its call gave
   pub bytes : live (end .ring) (pageOf (end .ring)) ≡ joined (map (encode cpu) kept)
-  -- ".. the longest run of latest accepted events that fits", an event's size being the number of its bytes
+  -- 3.5: of all that was accepted, an event's size being the number of its bytes
   pub longest : LongestRun (λ (x : Numbered Event). length (encode cpu x)) capacity (beginning .kept ++ acceptedOf calls) kept
-  -- "Only an event above half the capacity is dropped", and no call is refused but by 8 and 9
+  -- 6.4: a call drops its event for its size alone; and none is refused but by 8 and 9
   pub exact : Exact capacity (beginning .last) (write size beginning) calls
   -- inspection never refuses: it finds the events kept
   pub inspection : inspected (end .ring) ≡ Whole (record { count = length kept; first = firstOf sequenceOf kept; last = lastOf sequenceOf 0 kept })
-  -- "The last number given out equals events kept, dropped and overwritten together": kept is inspection's count, dropped is from the calls,
+  -- last is made up of the events kept, dropped and overwritten: kept is inspection's count, dropped is from the calls,
   -- overwritten is the record's
   pub counts : end .writer .last ≡ length kept + (beginning .dropped + droppedOf (map callOf calls)) + end .writer .overwritten
   -- each call that isn't refused uses one number
@@ -96,7 +96,7 @@ Demand2 =
     (cpu capacity : ℕ) (beginning : Ring Event) (s : State) → Holds cpu capacity (s .ring) (s .writer) beginning → (turns : List Turn) →
     Promise cpu capacity beginning (uncalled (s .ring) turns) (made s turns) (after s turns)
 
--- "all 0 with a fresh ring"
+-- 4.1: the record that goes with a fresh ring
 abbrev pub zeros : Writer
 zeros = record { last = 0; dropped = 0; overwritten = 0 }
 

@@ -1,4 +1,4 @@
--- A ring's bytes and its writer's record that stand for a ring without bytes: any such may be the beginning of a history.
+-- RULES 4.4: a ring's bytes and its writer's record that stand for a ring without bytes: any such may be the beginning of a history.
 use Prim.Native.Nat.{ℕ, _^_, _<_}
 use mathlib.Core.{Path._≡_, List.List, List.map}
 use lib.{ListN.getD}

@@ -1,4 +1,4 @@
--- "10 DAMAGED .. with its position": the place is the first bad event's, on any ring that passes 1 to 6, whoever made it.
+-- RULES 5.5: the place that 10 bears is the first bad event's, on any ring that passes 1 to 6, whoever made it.
 use Prim.Native.Nat.{ℕ, _+_, _-_, _<_}
 use mathlib.Core.{Path._≡_, Logic._↔_, Bool.false, List.List, List._++_}
 use lib.{ListN.length}
@@ -22,19 +22,19 @@ pub record UpTo (s : List ℕ) (p : Page) (events : List (List ℕ)) (at : ℕ) 
   pub below : at < p .«write_pos»
 
 pub record PlaceOf (s : List ℕ) (p : Page) (at : ℕ) : Type 0 where
-  -- "every event well formed, each sequence above the one before, the first above 0 .. stops at the first bad place"
+  -- 6.9: sound events lie before the place, and the one there isn't well formed or its sequence doesn't rise
   pub inspect : (inspected s ≡ inspectsRefused (Damaged at))
       ↔ ((events : List (List ℕ)) × UpTo s p events at × Rising sequence 0 events
       × (passable (p .«cpu_id») (lastOf sequence 0 events) (rest s p at) ≡ false))
-  -- "10 by full inspection"
+  -- 7.8, 7.6: by a whole inspection
   pub swap : (t : List ℕ) (w : Writer) → exchange s t w .answer .outcome ≡ swapsRefused (Damaged at) → inspected s ≡ inspectsRefused (Damaged at)
   pub follow : (reader : Reader) → followed s reader .answer ≡ attachesRefused (Damaged at) → inspected s ≡ inspectsRefused (Damaged at)
-  -- "while write_pos + size - tail is above capacity .. refuse 10 if the event at tail isn't well formed (its sequence isn't looked at)"
+  -- 6.5: the walk comes to the place with still too little room, and no sequence counts
   pub emit : (w : Writer) (label : Label) (payload : List ℕ) → (emission s w label payload .answer .outcome ≡ emitsRefused (Damaged at))
       ↔ ((wrongWriter w ≡ false) × Acceptable (p .capacity) (w .last) (p .«write_pos») (32 + length payload)
       × (events : List (List ℕ)) × UpTo s p events at × (p .capacity < p .«write_pos» + (32 + length payload) - at)
       × (wellFormed (p .«cpu_id») (rest s p at) ≡ false))
-  -- "10 (well formed, and sequence above last)"
+  -- 7.4: the event read isn't well formed, or it isn't later than the reader's last
   pub read : (reader : Reader) (out : List ℕ) → readOut s reader out .answered .answer ≡ readsRefused (Damaged at)
       → (at ≡ readingPlace p reader) × (passable (p .«cpu_id») (reader .last) (rest s p at) ≡ false)
 

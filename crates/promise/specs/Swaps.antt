@@ -1,5 +1,5 @@
--- What a swap promises, of any ring that holds together with its record. A created ring does, so does one after any calls (`Promise` ends in `holds`)
--- and one that a swap has made (`begins`): so this is said of every swap in every history of calls and swaps on the newest ring.
+-- RULES 7.12: what a swap promises, of any ring that holds together with its record. A created ring does, so does one after any calls (`Promise` ends
+-- in `holds`) and one that a swap has made (`begins`): so this is said of every swap in every history of calls and swaps on the newest ring.
 use Prim.Native.Nat.{ℕ, _+_, _-_, _%_, _^_}
 use mathlib.Core.{Path._≡_, Logic._≢_, Bool.cond, List.List, List.[], List._∷_}
 use lib.{ListN.length}
@@ -18,7 +18,7 @@ swap s t = exchange (s .ring) t (s .writer)
 abbrev pub swapped : State → List ℕ → State
 swapped s t = record { ring = swap s t .new; writer = swap s t .answer .writer }
 
--- these events of a ring, from position 0 on: "Discarded events add to overwritten"
+-- 7.11: these events of a ring, from position 0 on; the others count as overwritten
 abbrev pub keeping : List (Numbered Event) → Ring Event → Ring Event
 keeping kept ring = record {
   kept = kept;
@@ -30,18 +30,18 @@ keeping kept ring = record {
 
 -- of a swap that isn't refused, from a ring of capacity `before`
 pub record SwapPromise (cpu before : ℕ) (ring : Ring Event) (s : State) (t : List ℕ) : Type 0 where
-  -- "the longest run of latest events that fits is copied in order to position 0 of the new ring"
+  -- 7.9: what the new ring gets of the old one's events
   pub kept : List (Numbered Event)
   pub longest : LongestRun (λ (x : Numbered Event). length (encode cpu x)) (length t - 8192) (ring .kept) kept
   -- the new ring is a beginning like any other, so the second demand goes on from it
   pub begins : Holds cpu (length t - 8192) (swap s t .new) (swap s t .answer .writer) (keeping kept ring)
   pub goes-on : (turns : List Turn)
       → Promise cpu (length t - 8192) (keeping kept ring) (uncalled (swapped s t .ring) turns) (made (swapped s t) turns) (after (swapped s t) turns)
-  -- "same cpu_id, old generation + 1 .. the old ring's generation goes up by one, and its wake is done"
+  -- 7.9, 7.10: both rings show the next generation, and who waits at the old one is told
   pub new-generation : pageOf (swap s t .new) .generation ≡ pageOf (s .ring) .generation + 1
   pub old-generation : pageOf (swap s t .old) .generation ≡ pageOf (s .ring) .generation + 1
   pub counter : futexCounter (swap s t .old) ≡ cond (wakes (needWake (s .ring))) ((futexCounter (s .ring) + 1) % 2 ^ 32) (futexCounter (s .ring))
-  -- "The old ring is frozen": it holds what it held
+  -- 7.12: the old ring holds what it held
   pub frozen : Holds cpu before (swap s t .old) (s .writer) ring
 
 -- no refusal is left but 16 and 15, and WAKE is answered exactly if the old ring's consumer waits

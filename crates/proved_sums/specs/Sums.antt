@@ -1,4 +1,4 @@
--- "Sums done by hand" (document 01), lines 1 to 10: one table, over the operations' definitions on bytes.
+-- RULES 9.1: lines 1 to 10 of the sums, one table over the operations' definitions on bytes.
 use Prim.Native.Nat.{ℕ, _+_, _≤_}
 use mathlib.Core.{Path._≡_, List.List, List.[], List._∷_, List._++_}
 use lib.{ListN.length, ListN.take, ListN.drop}
@@ -59,31 +59,31 @@ module _ (given : ℕ → Turn) where
   numberedBytes n = encode 3 (record { sequence = n; event = paid 96 (given n .event) })
 
   pub record Sums (buffer : ℕ → List ℕ) : Type 0 where
-    -- "Payload 32, four times: write 256, tail 0, kept 4."
+    -- four payloads of 32 fill the ring
     pub line1 : Shows (lived given buffer 256 one) 256 0 256 (1 ∷ 2 ∷ 3 ∷ 4 ∷ []) (counted 4 0 0)
-    -- "Payload 0: tail 64, write 288, kept 2 to 5, overwritten 1."
+    -- a payload of 0: one event goes
     pub line2 : Shows (lived given buffer 256 two) 256 64 288 (2 ∷ 3 ∷ 4 ∷ 5 ∷ []) (counted 5 0 1)
-    -- "Payload 96: tail 192, write 416, kept 4 to 6, overwritten 3."
+    -- a payload of 96: two more go
     pub line3 : Shows (lived given buffer 256 three) 256 192 416 (4 ∷ 5 ∷ 6 ∷ []) (counted 6 0 3)
-    -- "Payload 96: tail 288, write 544, kept 6 and 7, overwritten 5; 96 bytes at data offset 160, 32 at 0."
+    -- a payload of 96: two more go, and event 7 lies in two stretches
     pub line4 : Shows (lived given buffer 256 four) 256 288 544 (6 ∷ 7 ∷ []) (counted 7 0 5)
         × (take 96 (drop (8192 + 160) (lived given buffer 256 four .ring)) ≡ take 96 (numberedBytes 7))
         × (take 32 (drop 8192 (lived given buffer 256 four .ring)) ≡ drop 96 (numberedBytes 7))
-    -- "Payload 97: DROPPED, last 8 = 2 + 1 + 5."
+    -- a payload of 97 is one byte too many: kept, dropped and overwritten make up last
     pub line5 : (answers given buffer 256 five ≡ Done ∷ Done ∷ Done ∷ Done ∷ Done ∷ Done ∷ Done ∷ Dropped ∷ [])
         × Shows (lived given buffer 256 five) 256 288 544 (6 ∷ 7 ∷ []) (counted (2 + 1 + 5) 1 5)
-    -- "A reader attached before line 1 now gets 6 (missed 5), 7 (missed 5), EMPTY."
+    -- three reads by a reader attached before line 1
     pub line6 : ((old : Reader) → attached (afterCreate 3 (buffer 256)) old ≡ record { answer = attachmentDone; reader = standing 0 0 0 })
         × ((out : List ℕ) → 128 ≤ length out → Reads (lived given buffer 256 five .ring) out (numberedBytes 6) (numberedBytes 7))
-    -- "Swapped to 512: tail 0, write 256, generation 2; the old page also shows 2."
+    -- a swap to 512: nothing is lost, and both rings show generation 2
     pub line7 : Shows (swapped (lived given buffer 256 five) (buffer 512)) 512 0 256 (6 ∷ 7 ∷ []) (counted 8 1 5)
         × (pageOf (swap (lived given buffer 256 five) (buffer 512) .new) .generation ≡ 2)
         × (pageOf (swap (lived given buffer 256 five) (buffer 512) .old) .generation ≡ 2)
-    -- "Another ring, 512, sizes 32 and 256, swapped to 256: only the second kept, write 256."
+    -- a ring of 512, sizes 32 and 256, a swap to 256: the second alone fits
     pub line8 : Shows (swapped (lived given buffer 512 (0 ∷ 224 ∷ [])) (buffer 256)) 256 0 256 (2 ∷ []) (counted 2 0 1)
-    -- "Ring 1024, one event of 512, swapped to 256: nothing kept, tail and write 0."
+    -- a ring of 1,024, one size of 512, a swap to 256: nothing fits
     pub line9 : Shows (swapped (lived given buffer 1024 (480 ∷ [])) (buffer 256)) 256 0 0 [] (counted 1 0 1)
-    -- "Sizes 32, 32, 256, 256 into 256 and into 512: the first keeps 1 and 2, the second 3 and 4. The premise on size in the third demand can't go."
+    -- sizes 32, 32, 256, 256 into 256 and into 512: the third demand needs its premise on size
     pub line10 : Shows (lived given buffer 256 ten) 256 0 64 (1 ∷ 2 ∷ []) (counted 4 2 0)
         × Shows (lived given buffer 512 ten) 512 64 576 (3 ∷ 4 ∷ []) (counted 4 0 2)
         -- without it each emptying still ends with the longest run handed out, but the smaller's isn't always the end part of the larger's

@@ -1,5 +1,5 @@
--- Demand 1, of any bytes and any numbers: "A refusal writes nothing and returns the record as given. Each is given exactly when its condition is met at
--- its turn" (document 01). A table holds an operation's questions in the paper's order, each with its answer, and in the last row what is left to answer.
+-- RULES 5.1, 5.2, 6.3: demand 1, of any bytes and any numbers: a refusal comes in its turn, where its condition holds and nowhere else, and changes
+-- nothing. A table holds an operation's questions in their order, each with its answer, and in the last row what is left to answer.
 use Prim.Native.Nat.{ℕ, _+_, _-_, _^_}
 use mathlib.Core.{Path._≡_, Logic._↔_, Bool.Bool, Bool.true, Bool.not, Bool._&&_, List.List, List.[], List._∷_, List._++_}
 use lib.{ListN.length, Dec.eqb, Dec.leb, Dec.ltb}

@@ -48,7 +48,7 @@ fn state_command(word: &[u8], fields: usize) -> Command {
     Command::Unknown
 }
 
-// The operations of document 01.
+// The operations, sections 6 and 7 of the rules.
 fn ring_command(word: &[u8], fields: usize) -> Command {
     if fields == 3 && same(word, b"create") {
         return Command::Create;

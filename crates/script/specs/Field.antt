@@ -1,4 +1,4 @@
--- "Fields are what stands between single spaces." Definitions alone: nothing is assumed.
+-- tests/second/README.md, decision 4: fields are what stands between single spaces. Definitions alone: nothing is assumed.
 use Prim.Native.Nat.{ℕ, zero, suc, _+_}
 use mathlib.Core.{Bool.Bool, Bool.true, Bool.false, Bool.cond, List.List, List.[], List._∷_}
 use lib.{Dec.eqb, ListN.length, ListN.drop}

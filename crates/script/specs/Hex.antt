@@ -1,4 +1,4 @@
--- "Bytes are pairs of the digits 0-9a-f, or `-` for none." Definitions alone: nothing is assumed.
+-- tests/second/README.md, decision 6: bytes are pairs of the digits 0-9a-f, or `-` for none. Definitions alone: nothing is assumed.
 use Prim.Native.Nat.{ℕ, _+_, _-_, _*_, _/_, _%_}
 use mathlib.Core.{Bool.Bool, Bool.true, Bool.false, Bool.cond, List.List, List.[], List._∷_}
 use lib.{Dec.ltb, Dec.eqb, ListN.length, ListN.getD}

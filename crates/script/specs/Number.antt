@@ -1,4 +1,4 @@
--- "Numbers are digits only, with no sign and no leading zero but `0` itself, up to 18446744073709551615." Definitions alone: nothing is assumed.
+-- tests/second/README.md, decision 5: numbers are digits alone, each in one spelling, up to 2^64 - 1. Definitions alone: nothing is assumed.
 use Prim.Native.Nat.{ℕ, _+_, _-_, _*_}
 use mathlib.Core.{Bool.Bool, Bool.false, Bool.cond, List.List, List.[], List._∷_}
 use lib.{Dec.ltb, Dec.eqb, ListN.length, ListN.getD}

@@ -45,7 +45,7 @@ pub fn emitted(ring: &mut [u8], writer: Writer, size: usize) -> Emitted
     emit(ring, writer, label, &zeros[0..size])
 }
 
-// One more event, shown under a line of the paper.
+// One more event, shown under a line of the sums.
 fn shown(line: u64, ring: &mut [u8], writer: Writer, size: usize) -> Writer
     requires { ⌜ size ≤ 480 ⌝ }
 {

@@ -1,4 +1,4 @@
-// The sums done by hand in document 01, lines 1 to 12, worked on real rings: what is found is printed, a line each.
+// RULES 9.1: lines 1 to 12 of the sums worked on real rings: what is found is printed, a line each.
 mod lives;
 mod print;
 mod refusals;

@@ -3,7 +3,7 @@ use table_rules::Refusal;
 ghost use mathlib.Core.Path.{_≡_};
 ghost use Rattle.table_rules.specs.Refusals.{paperNumber};
 
-// The number under which document 01 knows a refusal.
+// 5.3: a refusal's number.
 pub fn paper_number(refusal: Refusal) -> u8
     ensures { λ r. ⌜ r ≡ paperNumber refusal ⌝ }
 {

@@ -1,4 +1,4 @@
--- "decimal numbers without leading zeros, most significant digit first". Definitions alone: nothing is assumed.
+-- RULES 8.9: a number's one text in decimal digits. Definitions alone: nothing is assumed.
 use Prim.Native.Nat.{ℕ, zero, suc, _+_, _-_, _*_, _/_, _%_, _≤_, _<_}
 use mathlib.Core.{Path._≡_, Bool.Bool, Bool.true, Bool.false, List.List, List.[], List._∷_, List._++_}
 use lib.{Dec.ltb, ListN.length, ListN.getD}
@@ -31,7 +31,7 @@ abbrev pub Digits : List ℕ → Type 0
 Digits [] = Unit {0}
 Digits (digit ∷ digits) = (48 ≤ digit) × (digit ≤ 57) × Digits digits
 
--- What the sentence above asks of the text of n, with no word on how it is made. `decimal n` is such a text, and there is no other.
+-- 8.9: what is asked of the text of n, with no word on how it is made. `decimal n` is such a text, and there is no other.
 pub record Numeral (n : ℕ) (text : List ℕ) : Type 0 where
   pub reads : readBack text ≡ n
   pub digits : Digits text

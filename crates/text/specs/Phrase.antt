@@ -1,4 +1,4 @@
--- What lines are made of. Definitions alone: nothing is assumed.
+-- RULES 8.9: what lines are made of. Definitions alone: nothing is assumed.
 use Prim.Native.Nat.{ℕ}
 use mathlib.Core.{List.List, List.[], List._∷_, List._++_}
 use Rattle.text.specs.{Decimal.decimal}

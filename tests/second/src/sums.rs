@@ -1,4 +1,4 @@
-//! The sums done by hand in document 01, lines 1 to 12.
+//! RULES 9.1: the sums worked by hand, lines 1 to 12.
 
 use crate::ring::*;
 

@@ -72,8 +72,8 @@ citations=0
 while read -r where number; do
     citations=$((citations + 1))
     [[ $titles == *" $number "* ]] || fail "$where cites $number, which is no paragraph"
-done < <(find crates/*/specs crates/*/src crates/*/proofs -type f \( -name '*.antt' -o -name '*.rt' \) -exec awk '
-    /^ *(--|\/\/)/ {
+done < <(find crates/*/specs crates/*/src crates/*/proofs tests/second/src tests/c/second.c -type f \( -name '*.antt' -o -name '*.rt' -o -name '*.rs' -o -name '*.c' \) -exec awk '
+    /^ *(--|\/\/|\/\*)/ {
         line = " " $0
         while (match(line, /[0-9]+(\.[0-9]+)+/)) {
             number = substr(line, RSTART, RLENGTH)

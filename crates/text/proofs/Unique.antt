@@ -1,4 +1,4 @@
--- A number has one numeral.
+-- A number has one numeral: its last digit is the remainder by ten, and what stands before that is a numeral of the quotient (`by-quotient`).
 use Prim.Native.Nat.{ℕ, _+_, _-_, _*_, _/_, _%_, _≤_, _<_}
 use mathlib.Core.Path.{_≡_}
 use mathlib.Core.Logic.{by-cases}

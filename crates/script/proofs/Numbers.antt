@@ -1,4 +1,4 @@
--- How a decimal number is read digit by digit.
+-- A number is read digit by digit: a digit that goes over to the number leaves the whole as it was (`read-next`).
 use Prim.Native.Nat.{ℕ, suc, _+_, _-_, _*_, _≤_, _<_}
 use mathlib.Core.Path.{_≡_, refl, ap, _∙_}
 use mathlib.Core.Bool.{true, false}

@@ -1,11 +1,10 @@
--- What a call leaves: refused for its record's length, or as the operation answers.
+-- What a call leaves, by its record's length: everything, or what the operation leaves.
+-- `read-answered` and `swap-answered` join the contracts of the code's steps.
 use Prim.Native.Nat.{ℕ}
-use mathlib.Core.Path.{_≡_, refl, sym, ap, _∙_}
+use mathlib.Core.Path.{_≡_, sym, ap, _∙_}
 use mathlib.Core.List.{List}
+use borrow.Author.Tests.{eq-eqb, ne-eqb}
 use lib.ListN.{length}
-use Rattle.table_rules.specs.declared.Refusal.the-variants.{Record}
-use Rattle.table_rules.proofs.Laws.{stops, passes}
-use Rattle.table_rules.proofs.Tests.{unequal, equal}
 use Rattle.word_rules.specs.Fields.{putAll}
 use Rattle.writer_rules.specs.declared.Writer.{Writer}
 use Rattle.reader_rules.specs.Read.{readOut}
@@ -14,8 +13,9 @@ use Rattle.reader_rules.specs.declared.Answered.{Answered}
 use Rattle.swap_rules.specs.Swap.{exchange}
 use Rattle.swap_rules.specs.declared.Swapped.{Swapped}
 use Rattle.emit_rules.specs.declared.Emitted.{Emitted}
-use Rattle.console_rules.specs.Console.{recordOf, recordRows, recordAfter, emittedNumber}
-use Rattle.bench_calls.specs.Calls.{readerOf, readerFields, readingNumber, Read, refusedRead, answeredRead, readerRows, readCall, asEmitted, Exchanged, refusedSwap, answeredSwap, swapCall}
+use Rattle.console_rules.specs.Console.{recordOf, recordAfter, emittedNumber}
+use Rattle.bench_calls.specs.Calls.{answerNumber, readAnswer, readerOf, readerFields, Read, unread, answeredRead, readCall}
+use Rattle.bench_calls.specs.Calls.{asEmitted, Exchanged, unswapped, answeredSwap, swapCall}
 
 -- an equation of all that is left, read by parts as the contracts have them
 read-parts : {a b : Read} → a ≡ b → (b .answer ≡ a .answer) × ((b .kept ≡ a .kept) × (b .out ≡ a .out))
@@ -31,22 +31,23 @@ module _ (s bytes out : List ℕ) where
   abbrev read : Read
   read = readCall s bytes out
 
-  pub read-refused : (length bytes ≡ 32 → ⊥)
-      → (read .answer ≡ refusedRead bytes out Record .answer) × ((read .kept ≡ bytes) × (read .out ≡ out))
-  unfolding readCall readerRows
-  read-refused h = read-parts (sym (stops (refusedRead bytes out) _ 0 _ Record (unequal _ _ h, refl)))
+  pub read-other : (length bytes ≡ 32 → ⊥) → (unread bytes out .answer ≡ read .answer) × ((bytes ≡ read .kept) × (out ≡ read .out))
+  unfolding readCall
+  read-other h =
+      let all : read ≡ unread bytes out = rw (ne-eqb (length bytes) 32 h) in
+      read-parts all
 
   passed : length bytes ≡ 32 → read ≡ answeredRead bytes (readOut s (readerOf bytes) out)
-  unfolding readCall readerRows
-  passed h = passes (refusedRead bytes out) _ _ (equal _ _ h, tt)
+  unfolding readCall
+  passed h = rw (eq-eqb (length bytes) 32 h)
 
   pub read-answered : length bytes ≡ 32 → (reader : Reader) (answered : Answered) (out′ bytes′ : List ℕ) (r : ℕ) → reader ≡ readerOf bytes
       → answered ≡ readOut s reader out .answered → out′ ≡ readOut s reader out .out → bytes′ ≡ putAll bytes (readerFields (answered .reader))
-      → r ≡ readingNumber (answered .answer) → (r ≡ read .answer) × ((bytes′ ≡ read .kept) × (out′ ≡ read .out))
+      → r ≡ answerNumber (readAnswer (answered .answer)) → (r ≡ read .answer) × ((bytes′ ≡ read .kept) × (out′ ≡ read .out))
   read-answered h reader answered out′ bytes′ r held made handed kept number =
       let same : answered ≡ readOut s (readerOf bytes) out .answered = made ∙ ap (λ (v : Reader). readOut s v out .answered) held in
       let whole = read-parts (passed h) in (
-        number ∙ ap (λ (a : Answered). readingNumber (a .answer)) same ∙ whole .0,
+        number ∙ ap (λ (a : Answered). answerNumber (readAnswer (a .answer))) same ∙ whole .0,
         (
           kept ∙ ap (λ (a : Answered). putAll bytes (readerFields (a .reader))) same ∙ whole .1 .0,
           handed ∙ ap (λ (v : Reader). readOut s v out .out) held ∙ whole .1 .1,
@@ -57,14 +58,16 @@ module _ (s t bytes : List ℕ) where
   abbrev swapped : Exchanged
   swapped = swapCall s t bytes
 
-  pub swap-refused : (length bytes ≡ 24 → ⊥)
-      → (swapped .answer ≡ refusedSwap s t bytes Record .answer) × ((swapped .old ≡ s) × ((swapped .new ≡ t) × (swapped .kept ≡ bytes)))
-  unfolding swapCall recordRows
-  swap-refused h = swap-parts (sym (stops (refusedSwap s t bytes) _ 0 _ Record (unequal _ _ h, refl)))
+  pub swap-other : (length bytes ≡ 24 → ⊥)
+      → (unswapped s t bytes .answer ≡ swapped .answer) × ((s ≡ swapped .old) × ((t ≡ swapped .new) × (bytes ≡ swapped .kept)))
+  unfolding swapCall
+  swap-other h =
+      let all : swapped ≡ unswapped s t bytes = rw (ne-eqb (length bytes) 24 h) in
+      swap-parts all
 
   swap-passed : length bytes ≡ 24 → swapped ≡ answeredSwap bytes (exchange s t (recordOf bytes))
-  unfolding swapCall recordRows
-  swap-passed h = passes (refusedSwap s t bytes) _ _ (equal _ _ h, tt)
+  unfolding swapCall
+  swap-passed h = rw (eq-eqb (length bytes) 24 h)
 
   pub swap-answered : length bytes ≡ 24 → (w : Writer) (answer : Swapped) (emitted : Emitted) (s′ t′ bytes′ : List ℕ) (r : ℕ) → w ≡ recordOf bytes
       → answer ≡ exchange s t w .answer → s′ ≡ exchange s t w .old → t′ ≡ exchange s t w .new → emitted ≡ asEmitted answer

@@ -1,5 +1,5 @@
 // RULES 8.2: the firmware has no such calls. Reading and the swap as C can call them, for the measurement in bench/ alone.
-// Records lie in bytes as the firmware's calls have them.
+// Records lie in bytes as the firmware's calls have them. What the firmware's calls have no number for gets one of this crate's own, 100 or above.
 use crate::reader_record::keep_reader;
 use crate::reader_record::reader_at;
 use console::answer::emitted_number;
@@ -11,18 +11,38 @@ use emit_rules::Outcome;
 use reader_rules::Reading;
 use table_rules::Refusal;
 ghost use mathlib.Core.Path.{_≡_};
-ghost use Rattle.bench_calls.specs.Calls.{readingNumber, sameOutcome, readCall, swapCall};
+ghost use Rattle.bench_calls.specs.Calls.{answerNumber, readAnswer, sameOutcome, readCall, swapCall};
 
 pub mod reader_record;
 
-fn reading_number(reading: Reading) -> u32
-    ensures { λ r. ⌜ r ≡ readingNumber reading ⌝ }
+pub enum BenchAnswer {
+    Event,
+    Empty,
+    Moved,
+    RecordLength,
+    Refused(Refusal),
+}
+
+fn answer_number(answer: BenchAnswer) -> u32
+    ensures { λ r. ⌜ r ≡ answerNumber answer ⌝ }
+{
+    match answer {
+        BenchAnswer::Event => 0,
+        BenchAnswer::RecordLength => 100,
+        BenchAnswer::Empty => 101,
+        BenchAnswer::Moved => 102,
+        BenchAnswer::Refused(refusal) => refusal_number(refusal),
+    }
+}
+
+fn read_answer(reading: Reading) -> BenchAnswer
+    ensures { λ r. ⌜ r ≡ readAnswer reading ⌝ }
 {
     match reading {
-        Reading::Event(_) => 0,
-        Reading::Empty => 18,
-        Reading::Moved => 19,
-        Reading::Refused(refusal) => refusal_number(refusal),
+        Reading::Event(_) => BenchAnswer::Event,
+        Reading::Empty => BenchAnswer::Empty,
+        Reading::Moved => BenchAnswer::Moved,
+        Reading::Refused(refusal) => BenchAnswer::Refused(refusal),
     }
 }
 
@@ -44,13 +64,13 @@ pub extern "C" fn bench_read(ring: &[u8], record: &mut [u8], out: &mut [u8]) -> 
     ensures bytes { λ r. ⌜ now (out .exit) ≡ readCall (now (ring .entry)) (now («record» .entry)) (now (out .entry)) .out ⌝ }
 {
     if record.len() != 32 {
-        return refusal_number(Refusal::Record);
+        return answer_number(BenchAnswer::RecordLength);
     }
     let reader = reader_at(record);
     let answered = reader::read::read(ring, reader, out);
     keep_reader(record, answered.reader);
     let reading = answered.answer;
-    reading_number(reading)
+    answer_number(read_answer(reading))
 }
 
 #[no_mangle]
@@ -61,7 +81,7 @@ pub extern "C" fn bench_swap(old: &mut [u8], new: &mut [u8], record: &mut [u8]) 
     ensures kept { λ r. ⌜ now («record» .exit) ≡ swapCall (now (old .entry)) (now (new .entry)) (now («record» .entry)) .kept ⌝ }
 {
     if record.len() != 24 {
-        return refusal_number(Refusal::Record);
+        return answer_number(BenchAnswer::RecordLength);
     }
     let writer = read(record);
     let swapped = swap::swap::swap(old, new, writer);

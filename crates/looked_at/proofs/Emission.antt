@@ -14,7 +14,8 @@ use Rattle.event_rules.specs.declared.Walk.{Walk}
 use Rattle.event_rules.specs.declared.Walk.the-variants as walks
 use Rattle.look_rules.specs.Live.{live}
 use Rattle.writer_rules.specs.declared.Writer.{Writer}
-use Rattle.emit_rules.specs.Emit.{AfterEmit, refuse, writerRows, tooLarge, dropped, tooFar, disagrees, eventOf, stored, acceptance, ended, placed, emittedOn, emission}
+use Rattle.emit_rules.specs.Emit.{AfterEmit, refuse, writerRows, tooLarge, dropped, tooFar, disagrees, eventOf}
+use Rattle.emit_rules.specs.Emit.{stored, acceptance, ended, placed, emittedOn, emission}
 use Rattle.emit_rules.specs.declared.Label.{Label}
 use Rattle.looked_at.specs.LookedAt.{Agree, AgreeStill}
 use Rattle.looked_at.proofs.Writes.{unwritten, and-then, as-long, agree-still, all-still, store-still, flag-same, notified-still}

@@ -1,4 +1,4 @@
--- The second demand of the bytes leaves no choice.
+-- The second demand of the bytes leaves no choice: call by call the same outcome (`exact-one`), so the same events are accepted, kept and stored.
 use Prim.Native.Nat.{ℕ, _+_}
 use native.Mathlib.Omega.{arith}
 use mathlib.Core.Path.{_≡_, refl, sym, ap, ap₂, _∙_, subst, subst₂}

@@ -66,7 +66,8 @@ module _ (cpu capacity : ℕ) (s : List ℕ) (w : Writer) (ring : Ring Event) (h
       survey-all s (pageOf s) (sound-of h .order) events (h .bytes-are) whole
       ∙ (λ i. record { stop = pageOf s .«write_pos»; count = count i; first = first i; last = holds-whole .1 i })
 
-  pub holds-inspected : inspected s ≡ answers.Whole (record { count = length (ring .kept); first = firstOf sequenceOf (ring .kept); last = lastOf sequenceOf 0 (ring .kept) })
+  pub holds-inspected : inspected s
+      ≡ answers.Whole (record { count = length (ring .kept); first = firstOf sequenceOf (ring .kept); last = lastOf sequenceOf 0 (ring .kept) })
   holds-inspected =
       inspected-whole s (pageOf s) (sound-of h) (ap (λ (v : Survey). v .stop) holds-surveyed)
       ∙ ap (λ (v : Survey). answers.Whole (summary v)) holds-surveyed

@@ -1,4 +1,4 @@
--- Reading bytes that hold a ring: the event at the reader's place, and the end.
+-- Reading bytes that hold a ring: from the reader's place on they are its event's and then the later ones' (`rest-is`), so that event is found, or the end.
 use Prim.Native.Nat.{ℕ, _+_, _^_, _≤_, _<_}
 use native.Mathlib.Omega.{arith}
 use mathlib.Core.Path.{_≡_, sym, ap, ap₂, _∙_, subst}
@@ -102,7 +102,8 @@ module _ (cpu capacity : ℕ) (s : List ℕ) (w : Writer) (ring : Ring Event) (h
           let well : wellFormed (p .«cpu_id») (rest s p (readingPlace p reader)) ≡ true =
           ap₂ (λ (n : ℕ) (bs : List ℕ). wellFormed n bs) (h .named) (ap (rest s p) here ∙ rest-is)
           ∙ well-front cpu (encode cpu x) whole (joined (map (encode cpu) more)) in
-          let above-it : reader .last < sequence (rest s p (readingPlace p reader)) = omega (arith, above, ap (λ (k : ℕ). sequence (rest s p k)) here, sequence-is) in
+          let above-it : reader .last < sequence (rest s p (readingPlace p reader)) =
+          omega (arith, above, ap (λ (k : ℕ). sequence (rest s p k)) here, sequence-is) in
           let room : eventSize (rest s p (readingPlace p reader)) ≤ length out = omega (arith, long, ap (λ (k : ℕ). eventSize (rest s p k)) here, size-is) in
           let front-is : take (eventSize (rest s p at)) (rest s p at) ≡ encode cpu x =
           ap (λ (bs : List ℕ). take (eventSize bs) bs) rest-is ∙ take-front cpu (encode cpu x) whole (joined (map (encode cpu) more)) in

@@ -86,7 +86,8 @@ module _ (cpu capacity : ℕ) (s : List ℕ) (w : Writer) (ring : Ring Event) (e
   goes-spent : ring .last ≡ 2 ^ 64 - 1 → goes (refuse s w Spent) (record { answer = Refused 8; next = ring })
   goes-spent none = record { answer = refl; given = inl (refl, none); holds = h; leaves = unchanged }
 
-  goes-far : ring .last ≢ 2 ^ 64 - 1 → size e ≤ capacity / 2 → 2 ^ 62 < write size ring + size e → goes (refuse s w Far) (record { answer = Refused 9; next = ring })
+  goes-far : ring .last ≢ 2 ^ 64 - 1 → size e ≤ capacity / 2 → 2 ^ 62 < write size ring + size e
+      → goes (refuse s w Far) (record { answer = Refused 9; next = ring })
   goes-far some half far = record { answer = refl; given = inr (refl, some, omega arith, omega arith); holds = h; leaves = unchanged }
 
   goes-dropped : ring .last ≢ 2 ^ 64 - 1 → capacity / 2 < size e → Holding size capacity (dropping size ring)

@@ -1,4 +1,4 @@
--- As long as numbers and positions suffice no call is refused.
+-- As long as numbers and positions suffice no call is refused: call by call neither 8 nor 9 may be given (`not-given`).
 use Prim.Native.Nat.{ℕ, _+_, _^_, _≤_, _<_}
 use native.Mathlib.Omega.{arith}
 use mathlib.Core.Path.{_≡_, sym, subst}

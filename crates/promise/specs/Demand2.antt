@@ -19,7 +19,9 @@ use Rattle.inspect_rules.specs.{Inspect.inspected, declared.Inspected.the-varia
 use Rattle.writer_rules.specs.{declared.Writer.Writer}
 use Rattle.run_rules.specs.{Runs.lastOf, Runs.firstOf, Runs.total, Runs.LongestRun}
 use Rattle.history.specs.{Ring.sequenceOf, Ring.Numbered, Ring.Ring, Ring.fresh, Ring.write, Calls.uses, Calls.used, Calls.droppedOf}
-use Rattle.promise.specs.{Bytes.Event, Bytes.size, Bytes.taken, Bytes.encode, Bytes.State, Bytes.consumed, Bytes.Turn, Bytes.uncalled, Bytes.Emission, Bytes.Made, Bytes.madeBy, Bytes.afterBy, Bytes.operation, Bytes.made, Bytes.after, Bytes.answerOf, Bytes.callOf, Bytes.acceptedOf, Bytes.raises, Bytes.outcomesOf, Holds.Holds}
+use Rattle.promise.specs.Bytes.{Event, size, taken, encode, State, consumed, Turn, uncalled, Emission, operation}
+use Rattle.promise.specs.Bytes.{Made, madeBy, afterBy, made, after, answerOf, callOf, acceptedOf, raises, outcomesOf}
+use Rattle.promise.specs.Holds.{Holds}
 
 -- numbers and positions are left, and the event isn't above half the capacity
 abbrev pub Acceptable : ℕ → ℕ → ℕ → ℕ → Type 0

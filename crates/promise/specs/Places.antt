@@ -10,7 +10,8 @@ use Rattle.look_rules.specs.{Live.rest, Live.live}
 use Rattle.writer_rules.specs.{Writer.wrongWriter, declared.Writer.Writer}
 use Rattle.emit_rules.specs.{Emit.emission, declared.Label.Label, declared.Outcome.the-variants.Refused as emitsRefused}
 use Rattle.inspect_rules.specs.{Inspect.inspected, declared.Inspected.the-variants.Refused as inspectsRefused}
-use Rattle.reader_rules.specs.{Read.readingPlace, Read.readOut, declared.Reader.Reader, declared.Reading.the-variants.Refused as readsRefused, declared.Attachment.the-variants.Refused as attachesRefused}
+use Rattle.reader_rules.specs.{Read.readingPlace, Read.readOut, declared.Reader.Reader}
+use Rattle.reader_rules.specs.declared.{Reading.the-variants.Refused as readsRefused, Attachment.the-variants.Refused as attachesRefused}
 use Rattle.follow_rules.specs.{Follow.followed}
 use Rattle.swap_rules.specs.{Swap.exchange, declared.SwapOutcome.the-variants.Refused as swapsRefused}
 use Rattle.promise.specs.{Demand2.Acceptable}

@@ -1,4 +1,4 @@
--- The rings of the sums hold what the ring without bytes comes to.
+-- The rings of the sums hold what the ring without bytes comes to: a created one begins so (`created-holds`), and call by call the two go alike (`same-calls`).
 use Prim.Native.Nat.{ℕ, _+_, _-_}
 use native.Mathlib.Omega.{arith}
 use mathlib.Core.Path.{_≡_, ap, _∙_}
@@ -43,7 +43,8 @@ module _ (turn : ℕ → Turn) (buffer : ℕ → List ℕ) (sized : (capacity : 
         ap (λ (s : List ℕ). number s 32 8) (created-blank 3 capacity (omega arith) fit (buffer capacity) (sized capacity))
         ∙ blank-generation 3 capacity 1 (omega arith) fit (omega arith) (omega arith)
 
-    pub lived-holds : (lengths : List ℕ) → Holds 3 capacity (lived turn buffer capacity lengths .ring) (lived turn buffer capacity lengths .writer) (reached capacity lengths)
+    pub lived-holds : (lengths : List ℕ)
+        → Holds 3 capacity (lived turn buffer capacity lengths .ring) (lived turn buffer capacity lengths .writer) (reached capacity lengths)
     lived-holds lengths = same-calls 3 capacity (turns turn 1 lengths) (createdState 3 (buffer capacity)) fresh begins .1
 
     -- a line of the table, by computing without bytes

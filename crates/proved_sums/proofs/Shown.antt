@@ -1,4 +1,4 @@
--- What bytes and a record that hold a ring show.
+-- What bytes and a record that hold a ring show: the page's numbers as they stand, and the events as inspection walks over them (`walked-kept`).
 use Prim.Native.Nat.{ℕ, _^_, _<_}
 use native.Mathlib.Omega.{arith}
 use mathlib.Core.Path.{_≡_, refl, sym, ap, ap₂, _∙_}
@@ -32,7 +32,8 @@ newest-number low [] = refl
 newest-number low (x ∷ xs) = newest-number (x .sequence) xs
 
 -- the sequences stand in the bytes
-sequences : (cpu : ℕ) → cpu < 2 ^ 16 → (low : ℕ) (xs : List (Numbered Event)) → total (bytes size) xs < 2 ^ 32 → Rising sequenceOf low xs → lastOf sequenceOf low xs < 2 ^ 64
+sequences : (cpu : ℕ) → cpu < 2 ^ 16 → (low : ℕ) (xs : List (Numbered Event)) → total (bytes size) xs < 2 ^ 32
+    → Rising sequenceOf low xs → lastOf sequenceOf low xs < 2 ^ 64
     → map sequence (map (encode cpu) xs) ≡ numbers xs
 sequences cpu narrow low [] small rise known = refl
 sequences cpu narrow low (x ∷ xs) small rise known =
@@ -51,7 +52,11 @@ module _ (capacity : ℕ) (s : State) (ring : Ring Event) (h : Holds 3 capacity 
     tail-is = h .tail-is ∙ at;
     write-is = h .write-is ∙ to;
     inspection = holds-inspected 3 capacity (s .ring) (s .writer) ring h
-        ∙ (λ i. answers.Whole (record { count = sym (length-map (ring .kept) (λ (x : Numbered Event). x .sequence)) i; first = oldest-number (ring .kept) i; last = newest-number 0 (ring .kept) i }))
+        ∙ (λ i. answers.Whole (record {
+          count = sym (length-map (ring .kept) (λ (x : Numbered Event). x .sequence)) i;
+          first = oldest-number (ring .kept) i;
+          last = newest-number 0 (ring .kept) i;
+        }))
         ∙ ap (λ (l : List ℕ). answers.Whole (summaryOf l)) are;
     kept-are = ap (map sequence) (walked-kept 3 capacity (s .ring) (s .writer) ring h)
         ∙ sequences 3 (h .narrow) 0 (ring .kept) (omega (arith, h .holding .fits, holds-range 3 capacity (s .ring) (s .writer) ring h)) (h .holding .rising)

@@ -1,4 +1,4 @@
--- Bytes that don't go round the data region's end stand in one stretch of the buffer.
+-- Bytes that don't go round the data region's end stand in one stretch of the buffer: the first half of what the double mapping shows (`bytes-mapped`).
 use Prim.Native.Nat.{ℕ, _+_, _-_, _%_, _≤_, _<_}
 use native.Mathlib.Omega.{arith}
 use mathlib.Core.Path.{_≡_, sym, ap, _∙_}

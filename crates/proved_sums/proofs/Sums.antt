@@ -49,8 +49,8 @@ module _ (given : ℕ → Turn) (buffer : ℕ → List ℕ) (sized : (capacity :
       let s : List ℕ = lived given buffer 256 four .ring in
       let h = lived-holds given buffer sized 256 refl four in
       let long : length s ≡ 8192 + 256 = sound-of h .long ∙ ap (λ (c : ℕ). 8192 + c) (h .sized) in
-      stretches s 256 long (omega arith) 416 96 32 (numberedBytes given 7)
-      (event-at 3 256 s (lived given buffer 256 four .writer) (reached given buffer sized 256 four) h (event 6 ∷ []) (event 7) [] refl) (omega arith) (omega arith)
+      let seven = event-at 3 256 s (lived given buffer 256 four .writer) (reached given buffer sized 256 four) h (event 6 ∷ []) (event 7) [] refl in
+      stretches s 256 long (omega arith) 416 96 32 (numberedBytes given 7) seven (omega arith) (omega arith)
 
   -- ---- line 6
 
@@ -58,7 +58,8 @@ module _ (given : ℕ → Turn) (buffer : ℕ → List ℕ) (sized : (capacity :
   unfolding allowed powerAmong
   attaches old =
       attach-held 3 256 (afterCreate 3 (buffer 256)) zeros fresh (begins given buffer sized 256 refl) old
-      ∙ ap (λ (n : ℕ). record { answer = Done; reader = record { «read_pos» = 0; last = 0; handed = 0; generation = n } }) (first-generation given buffer sized 256 refl)
+      ∙ ap (λ (n : ℕ). record { answer = Done; reader = record { «read_pos» = 0; last = 0; handed = 0; generation = n } })
+      (first-generation given buffer sized 256 refl)
 
   reads : (out : List ℕ) → 128 ≤ length out → Reads (lived given buffer 256 five .ring) out (numberedBytes given 6) (numberedBytes given 7)
   unfolding allowed powerAmong emit latest older after cut
@@ -70,12 +71,15 @@ module _ (given : ℕ → Turn) (buffer : ℕ → List ℕ) (sized : (capacity :
       let tail : pageOf s .«tail_pos» ≡ 288 = h .tail-is in
       let six : length (numberedBytes given 6) ≡ 128 = encode-length 3 (event 6) in
       let next : List ℕ = numberedBytes given 6 ++ drop 128 out in
+      let reads-six = reads-event 3 256 s w ring h [] (event 6) (event 7 ∷ []) refl (omega arith) in
+      let reads-seven = reads-event 3 256 s w ring h (event 6 ∷ []) (event 7) [] refl (omega arith) in
       let first : readOut s (standing 0 0 0) out ≡ answering (reading.Event 128) (standing 416 6 1) next =
-      reads-event 3 256 s w ring h [] (event 6) (event 7 ∷ []) refl (omega arith) (standing 0 0 0) out (omega arith) (omega arith) (omega arith) (omega arith) long in
+      reads-six (standing 0 0 0) out (omega arith) (omega arith) (omega arith) (omega arith) long in
       let second : readOut s (standing 416 6 1) next ≡ answering (reading.Event 128) (standing 544 7 2) (numberedBytes given 7 ++ drop 128 out) =
-      reads-event 3 256 s w ring h (event 6 ∷ []) (event 7) [] refl (omega arith) (standing 416 6 1) next (omega arith) (omega arith) (omega arith) (omega arith)
+      reads-seven (standing 416 6 1) next (omega arith) (omega arith) (omega arith) (omega arith)
       (omega (arith, length-append (numberedBytes given 6) (drop 128 out), six))
-      ∙ ap (λ (l : List ℕ). answering (reading.Event 128) (standing 544 7 2) (numberedBytes given 7 ++ l)) (drop-at (numberedBytes given 6) (drop 128 out) 128 six) in
+      ∙ ap (λ (l : List ℕ). answering (reading.Event 128) (standing 544 7 2) (numberedBytes given 7 ++ l))
+      (drop-at (numberedBytes given 6) (drop 128 out) 128 six) in
       record {
         first = first;
         first-missed = ap (λ (o : AfterRead). missed (o .answered .reader)) first ∙ refl;

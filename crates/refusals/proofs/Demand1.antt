@@ -44,7 +44,8 @@ use Rattle.follow_rules.specs.Follow.{followRows, followedOn, followed}
 use Rattle.swap_rules.specs.Swap.{AfterSwap, refuseSwap, exchanging, swapRows, carriedOver, exchangeOn, exchange}
 use Rattle.swap_rules.specs.declared.SwapOutcome.{SwapOutcome}
 use Rattle.swap_rules.specs.declared.SwapOutcome.the-variants as swaps
-use Rattle.console_rules.specs.Console.{createdNumber, inspectedNumber, emittedNumber, isRefused, recordOf, recordAfter, Called, refusedCall, recordRows, emitCall}
+use Rattle.console_rules.specs.Console.{createdNumber, inspectedNumber, emittedNumber, isRefused, recordOf, recordAfter}
+use Rattle.console_rules.specs.Console.{Called, refusedCall, recordRows, emitCall}
 use Rattle.refusals.specs.Demand1.{Asked, walkTable, badPlace, emitTable, inspectTable, Demand1}
 use Rattle.refusals.proofs.Rows.{Outcomes, Fits, refuses, says, past, either, ask, asks, asked}
 

@@ -1,4 +1,4 @@
--- Bytes written as a field are read back from it.
+-- Bytes written as a field are read back from it: a digit first (`digit-back`), and then byte by byte.
 use Prim.Native.Nat.{ℕ, suc, _+_, _*_, _/_, _%_, _≤_, _<_}
 use mathlib.Core.Path.{_≡_, refl, _∙_}
 use mathlib.Core.Logic.{by-cases}

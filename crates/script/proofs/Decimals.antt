@@ -14,7 +14,8 @@ use Rattle.text.proofs.Unique.{numeral-decimal, readOn-least}
 use Rattle.script.specs.declared.Parsed.{Parsed}
 use Rattle.script.specs.declared.Parsed.the-variants.{Is, Bad}
 use Rattle.script.specs.Number.{digitOn, readFrom, leadingZero, readNumber}
-use Rattle.script.proofs.Numbers.{digit-low, digit-high, digit-large, digit-fits, stays-bad, number-none, number-leading, number-read, zero-short, zero-first}
+use Rattle.script.proofs.Numbers.{digit-low, digit-high, digit-large, digit-fits, stays-bad}
+use Rattle.script.proofs.Numbers.{number-none, number-leading, number-read, zero-short, zero-first}
 
 not-bad : {n : ℕ} {A : Type 0} → Bad ≡ Is n → A
 not-bad {n} e = let no : _≡_ {A = ℕ} 0 1 = cc in absurd (omega (arith, no))
@@ -59,7 +60,8 @@ module _ (m : ℕ) where
   read-is (x ∷ xs) n h e = read-on n x xs (digitOn n x) refl e (read-is xs)
 
 module _ (n : ℕ) where
-  by-leading : (field : List ℕ) (t : Bool) → leadingZero field ≡ t → 0 < length field → readNumber field ≡ Is n → (field ≡ decimal n) × (n < 18446744073709551616)
+  by-leading : (field : List ℕ) (t : Bool) → leadingZero field ≡ t → 0 < length field → readNumber field ≡ Is n
+      → (field ≡ decimal n) × (n < 18446744073709551616)
   by-leading field true z some e = not-bad (sym (number-leading field z) ∙ e)
   by-leading field false z some e =
       let read = read-is n field 0 (omega arith) (sym (number-read field some z) ∙ e) in (

@@ -1,4 +1,4 @@
--- The digits of hex, one at a time.
+-- The digits of hex, by the ranges that the code asks for: of each the tests before it fail and its own holds.
 use Prim.Native.Nat.{ℕ, _+_, _-_, _≤_, _<_}
 use mathlib.Core.Path.{_≡_, refl}
 use mathlib.Core.Bool.{true, false}

@@ -1,4 +1,4 @@
--- How a text is gone through by its places: what is left of a definition from the place i on.
+-- A text is gone through by its places: the byte at i is taken off (`drop-cons`), and what is left of a definition from there on is said.
 use Prim.Native.Nat.{ℕ, zero, suc, _+_, _-_, _≤_, _<_}
 use mathlib.Core.Path.{_≡_, refl, sym, ap, _∙_}
 use mathlib.Core.Bool.{Bool, true, false, cond}

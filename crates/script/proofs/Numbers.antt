@@ -1,4 +1,4 @@
--- How a decimal number is read digit by digit.
+-- A number is read digit by digit: a digit that goes over to the number leaves the whole as it was (`read-next`).
 use Prim.Native.Nat.{ℕ, suc, _+_, _-_, _*_, _≤_, _<_}
 use mathlib.Core.Path.{_≡_, refl, ap, _∙_}
 use mathlib.Core.Bool.{true, false}
@@ -39,11 +39,14 @@ stays-bad [] = refl
 stays-bad (digit ∷ digits) = stays-bad digits
 
 module _ (field : List ℕ) (n i : ℕ) where
+  read-next : (p : Parsed) → i < length field → digitOn n (getD field i 0) ≡ p → readFrom (Is n) (drop i field) ≡ readFrom p (drop (suc i) field)
+  read-next p h e = ap (λ (l : List ℕ). readFrom (Is n) l) (drop-cons field i 0 h) ∙ ap (λ (x : Parsed). readFrom x (drop (suc i) field)) e
+
   pub read-turn : (m : ℕ) → i < length field → digitOn n (getD field i 0) ≡ Is m → readFrom (Is n) (drop i field) ≡ readFrom (Is m) (drop (i + 1) field)
-  read-turn m h e = rw add-one (ap (λ (l : List ℕ). readFrom (Is n) l) (drop-cons field i 0 h) ∙ ap (λ (p : Parsed). readFrom p (drop (suc i) field)) e)
+  read-turn m h e = rw add-one (read-next (Is m) h e)
 
   pub read-bad : i < length field → digitOn n (getD field i 0) ≡ Bad → readFrom (Is n) (drop i field) ≡ Bad
-  read-bad h e = ap (λ (l : List ℕ). readFrom (Is n) l) (drop-cons field i 0 h) ∙ ap (λ (p : Parsed). readFrom p (drop (suc i) field)) e ∙ stays-bad (drop (suc i) field)
+  read-bad h e = read-next Bad h e ∙ stays-bad (drop (suc i) field)
 
   pub read-end : length field ≤ i → readFrom (Is n) (drop i field) ≡ Is n
   read-end h = rw (drop-of-length-le field h) refl

@@ -1,4 +1,4 @@
--- Pairs of digits: what a field of them spells, and what is left of it from a pair on.
+-- Pairs of digits: what a field of them spells, test by test (`passed`), and what is left of it from a pair on (`two-more`).
 use Prim.Native.Nat.{ℕ, suc, _+_, _*_, _/_, _%_, _≤_, _<_}
 use mathlib.Core.Path.{_≡_, refl, sym, _∙_}
 use mathlib.Core.Bool.{Bool, true, false, cond}

@@ -1,4 +1,4 @@
--- `decimal n` is the numeral of n, and the only one; and its length.
+-- `decimal n` is a numeral of n, and how long it is: part by part, each by `by-quotient`.
 use Prim.Native.Nat.{ℕ, zero, suc, _+_, _-_, _*_, _/_, _%_, _^_, _≤_, _<_}
 use mathlib.Core.Path.{_≡_, refl}
 use mathlib.Core.Logic.{by-cases}

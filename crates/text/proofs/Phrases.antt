@@ -1,4 +1,4 @@
--- The room that phrases take.
+-- The room that phrases take: that of their two parts (`length-append`).
 use Prim.Native.Nat.{ℕ, _+_}
 use mathlib.Core.Path.{_≡_}
 use mathlib.Core.List.{List, [], _∷_}

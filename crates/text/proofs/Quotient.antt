@@ -1,4 +1,4 @@
--- `decimal` below ten and above, and the rule by which what holds of it is proved.
+-- `decimal` below ten and above, whatever the steps that it counts (`within-enough`), and the rule by which what holds of it is proved (`by-quotient`).
 use Prim.Native.Nat.{ℕ, zero, suc, _+_, _/_, _%_, _≤_, _<_}
 use mathlib.Core.Path.{_≡_, refl}
 use mathlib.Core.Logic.{by-cases}

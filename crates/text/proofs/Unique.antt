@@ -1,4 +1,4 @@
--- A number has one numeral.
+-- A number has one numeral: its last digit is the remainder by ten, and what stands before that is a numeral of the quotient (`by-quotient`).
 use Prim.Native.Nat.{ℕ, _+_, _-_, _*_, _/_, _%_, _≤_, _<_}
 use mathlib.Core.Path.{_≡_}
 use mathlib.Core.Logic.{by-cases}
@@ -43,7 +43,8 @@ module _ (n : ℕ) (quotient : 10 ≤ n → (front : List ℕ) → Numeral (n / 
       let front = readBack (x ∷ xs) in
       let sum : front * 10 + (last - 48) ≡ n = rw (readOn-last 0 (x ∷ xs) last) at (numeral .reads) in
       let lead : x ≡ 48 → ⊥ = λ e. omega (arith, numeral .leads e, length-append xs (last ∷ [])) in
-      let large : 0 < front = by-cases (decLt 48 x) (λ above. omega (arith, readOn-least (0 * 10 + (x - 48)) xs)) (λ not. absurd (lead (omega (arith, numeral .digits .0)))) in
+      let above : 48 < x = omega (arith, lead, numeral .digits .0) in
+      let large : 0 < front = omega (arith, readOn-least (0 * 10 + (x - 48)) xs) in
       let whole = quotient (omega arith) (x ∷ xs) record {
         reads = omega (arith, digit .0, digit .1);
         digits = digits-front (x ∷ xs) (last ∷ []) (numeral .digits);

@@ -1,4 +1,4 @@
--- How writers go together.
+-- Writers one after the other are one writer (`put-then`, by `sets-append`), and what is put at 0 is the front of the buffer (`put-front`).
 use Prim.Native.Nat.{ℕ, _+_, _≤_}
 use mathlib.Core.Path.{_≡_, refl, sym, _∙_}
 use mathlib.Core.List.{List, [], _∷_, _++_}

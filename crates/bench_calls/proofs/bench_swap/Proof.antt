@@ -1,18 +1,20 @@
-use mathlib.Core.Path.{sym, _∙_}
+-- A record of another length leaves everything (`swap-other`).
+-- Past that `swap-answered` joins what the record was read as, the swap, and what was kept of it.
+use mathlib.Core.Path.{_∙_}
 use denote.Ref.{now}
-use Rattle.bench_calls.proofs.Calls.{swap-refused, swap-answered}
+use Rattle.bench_calls.proofs.Calls.{swap-other, swap-answered}
 use borrow.Author.Needs.{needs}
 use Rattle.bench_calls.proofs.bench_swap.Statement.{statement}
 use Rattle.bench_calls.proofs.bench_swap.Tie as tie
 
-refusal-number-requires : tie.Need-refusal-number-requires
-refusal-number-requires c κs = search needs
+answer-number-requires : tie.Need-answer-number-requires
+answer-number-requires c κs = search needs
 
 returns : tie.Need-returns
 returns c =
     let a = c .before .before .before .before .before .args in
-    let h = swap-refused (now (a .old)) (now (a .new)) (now (a .«record»)) (c .before .if1 .taken) in
-    (c .refusal-number .ensures ∙ sym (h .0), (sym (h .1 .0), (sym (h .1 .1 .0), sym (h .1 .1 .1))))
+    let left = swap-other (now (a .old)) (now (a .new)) (now (a .«record»)) (c .before .if1 .taken) in
+    (c .answer-number .ensures ∙ left .0, left .1)
 
 read-requires : tie.Need-read-requires
 read-requires c κs = search needs
@@ -40,17 +42,22 @@ same-length-3 c = search needs
 
 returns-2 : tie.Need-returns-2
 returns-2 c =
-    let a = c .before .before .before .before .before .before .before .before .before .before .before .before .before .before .before .before .before .before .before .before .args in
-    let swapped = c .before .before .before .before .before .before .before .before .before .before .before .swap in
-    swap-answered (now (a .old)) (now (a .new)) (now (a .«record»)) (c .before .before .before .before .before .before .before .before .before .before .before .before .before .before .before .before .if1 .left) _ (swapped .result) _ _ _ _ _ (c .before .before .before .before .before .before .before .before .before .before .before .before .before .before .read .ensures)
+    let kept = c .before .before .before in
+    let told = kept .before .before in
+    let done = told .before .before .before .before .before .before in
+    let held = done .before .before .before in
+    let asked = held .before .before in
+    let a = asked .before .before .before .before .args in
+    let swapped = done .swap in
+    swap-answered (now (a .old)) (now (a .new)) (now (a .«record»)) (asked .if1 .left) _ (swapped .result) _ _ _ _ _ (held .read .ensures)
     (swapped .ensures .0) (swapped .ensures .1 .0) (swapped .ensures .1 .1)
-    (λ i. record { outcome = c .before .before .before .before .before .same-outcome .ensures i; writer = swapped .result .writer }) (c .before .before .before .keep .ensures) (c .emitted-number .ensures)
+    (λ i. record { outcome = told .same-outcome .ensures i; writer = swapped .result .writer }) (kept .keep .ensures) (c .emitted-number .ensures)
 
 pub bench-swap-spec : {M : Type 1} → statement M
 bench-swap-spec =
     tie.close
     (tie.spec
-    refusal-number-requires
+    answer-number-requires
     returns
     read-requires
     swap-requires

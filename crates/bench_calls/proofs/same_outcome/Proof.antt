@@ -1,3 +1,4 @@
+-- Each arm names the outcome; only the refusal's has to be carried over from what was matched.
 use mathlib.Core.Path.{sym, ap}
 use Rattle.bench_calls.specs.Calls.{sameOutcome}
 use borrow.Author.Needs.{needs}

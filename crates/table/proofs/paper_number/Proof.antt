@@ -1,3 +1,4 @@
+-- One arm for each refusal: the value that was matched is written into the goal, and the number computes.
 use borrow.Author.Needs.{needs}
 use Rattle.table.proofs.paper_number.Statement.{statement}
 use Rattle.table.proofs.paper_number.Tie as tie

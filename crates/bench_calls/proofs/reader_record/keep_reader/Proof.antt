@@ -1,3 +1,4 @@
+-- The four numbers, put one after the other: `putAll` is no more than that.
 use Prim.Native.Nat.{ℕ}
 use mathlib.Core.Path.{ap, _∙_}
 use mathlib.Core.List.{List}
@@ -25,12 +26,14 @@ same-length c = search needs
 returns : tie.Need-returns
 unfolding putAll
 returns c =
-    let a = c .before .before .before .before .before .before .before .before .before .before .before .before .before .before .before .before .before .args in
-    c .before .before .put644 .ensures
-    ∙ ap (λ (b : List ℕ). put b 24 8 (a .reader .generation))
-    (c .before .before .before .before .before .before .put643 .ensures
-    ∙ ap (λ (b : List ℕ). put b 16 8 (a .reader .handed))
-    (c .before .before .before .before .before .before .before .before .before .before .put642 .ensures ∙ ap (λ (b : List ℕ). put b 8 8 (a .reader .last)) (c .before .before .before .before .before .before .before .before .before .before .before .before .before .before .put64 .ensures)))
+    let fourth = c .before .before in
+    let third = fourth .before .before .before .before in
+    let second = third .before .before .before .before in
+    let first = second .before .before .before .before in
+    let reader = first .before .before .before .args .reader in
+    let two = second .put642 .ensures ∙ ap (λ (b : List ℕ). put b 8 8 (reader .last)) (first .put64 .ensures) in
+    let three = third .put643 .ensures ∙ ap (λ (b : List ℕ). put b 16 8 (reader .handed)) two in
+    fourth .put644 .ensures ∙ ap (λ (b : List ℕ). put b 24 8 (reader .generation)) three
 
 pub keep-reader-spec : {M : Type 1} → statement M
 keep-reader-spec =

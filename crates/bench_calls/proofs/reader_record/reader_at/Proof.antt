@@ -1,3 +1,4 @@
+-- Field by field: each is the number that was read at its place.
 use Rattle.bench_calls.specs.Calls.{readerOf}
 use borrow.Author.Needs.{needs}
 use Rattle.bench_calls.proofs.reader_record.reader_at.Statement.{statement}

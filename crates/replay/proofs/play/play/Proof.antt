@@ -1,3 +1,4 @@
+-- Line by line: the place never passes the script's end and rises with each line, and no buffer changes its length.
 use Prim.Native.Nat.{_-_, _≤_}
 use mathlib.Core.Path.{_≡_}
 use lib.ListN.{length}

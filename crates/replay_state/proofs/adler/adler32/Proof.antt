@@ -1,3 +1,4 @@
+-- Both sums stay below 65,521 from turn to turn, so nothing overflows; what the sum is, no contract says.
 use Prim.Native.Nat.{_-_, _≤_, _<_}
 use lib.ListN.{length}
 use borrow.Author.Needs.{needs}

@@ -1,3 +1,4 @@
+-- The buffer on the stack has room for every field (`field-fits`), so the part of it that is written out lies within it.
 use Prim.Native.Nat.{_≤_}
 use native.Mathlib.Omega.{arith}
 use lib.ListN.{length}
@@ -26,9 +27,11 @@ part-words-start : tie.Need-part-words-start
 part-words-start c = search needs
 
 part-words-end : tie.Need-part-words-end
-part-words-end c = let buffer = c .before .before .before .before .before .before .before .args .buffer .now in
-    let put = c .before .before .put-hex .ensures in
-    let end : c .before .before .put-hex .result ≤ length (c .before .before .put-hex .last .1 .0) = omega (arith, put .place, put-length put, field-fits 40960 buffer (omega arith) (omega arith)) in
+part-words-end c =
+    let put = c .before .before .put-hex in
+    let buffer = c .before .before .before .before .before .before .before .args .buffer .now in
+    let fits = field-fits 40960 buffer (omega arith) (omega arith) in
+    let end : put .result ≤ length (put .last .1 .0) = omega (arith, put .ensures .place, put-length (put .ensures), fits) in
     search needs
 
 words-requires : tie.Need-words-requires

@@ -1,3 +1,4 @@
+-- Byte by byte: the spaces met and the fields of what is left are together the fields of the line (`parts-more`, and `parts-end` at its end).
 use Prim.Native.Nat.{_+_, _-_, _≤_}
 use mathlib.Core.Path.{_≡_}
 use native.Mathlib.Omega.{arith}
@@ -34,7 +35,10 @@ loop-less : tie.Need-loop-less Inv-loop μ-loop
 loop-less c = search needs
 
 loop-again : tie.Need-loop-again Inv-loop μ-loop
-loop-again c = let line = c .before .before .before .before .before .args .line .now in let i = c .before .before .before .loop .i in (omega arith, omega arith, omega (arith, parts-more line i (omega arith), c .space .ensures .0))
+loop-again c =
+    let turn = c .before .before .before in
+    let more = parts-more (turn .before .before .args .line .now) (turn .loop .i) in
+    (omega arith, omega arith, omega (arith, more (omega arith), c .space .ensures .0))
 
 add-result : tie.Need-add-result Inv-loop μ-loop
 add-result c = search needs

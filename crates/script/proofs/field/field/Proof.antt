@@ -1,3 +1,5 @@
+-- Field by field: with each space that is passed one field less is to go, and `field-turn` says that what is sought stays the same.
+-- A line that ends too early has no such field (`field-missing`); with none to go it is what stands up to the next space (`field-last`).
 use Prim.Native.Nat.{_-_, _≤_}
 use mathlib.Core.Path.{_≡_, sym, _∙_}
 use native.Mathlib.Omega.{arith}
@@ -31,7 +33,13 @@ part-result-end : tie.Need-part-result-end Inv-loop μ-loop
 part-result-end c = search needs
 
 returns : tie.Need-returns Inv-loop μ-loop
-returns c = let line = c .before .before .before .before .before .before .args .line .now in let end = c .before .before .seek .result in let none : end - end ≡ 0 = omega arith in rw none (sym (field-missing line (c .before .before .before .before .loop .at) end (c .before .before .seek .ensures .0) (c .before .before .before .before .loop .left) (omega arith) (c .before .if1 .taken)) ∙ c .before .before .before .before .loop .inv .1)
+returns c =
+    let turn = c .before .before .before .before in
+    let line = turn .before .before .args .line .now in
+    let end = c .before .before .seek .result in
+    let none : end - end ≡ 0 = omega arith in
+    let missing = field-missing line (turn .loop .at) end (c .before .before .seek .ensures .0) (turn .loop .left) (omega arith) (c .before .if1 .taken) in
+    rw none (sym missing ∙ turn .loop .inv .1)
 
 add-at : tie.Need-add-at Inv-loop μ-loop
 add-at c = search needs
@@ -43,7 +51,13 @@ loop-less : tie.Need-loop-less Inv-loop μ-loop
 loop-less c = search needs
 
 loop-again : tie.Need-loop-again Inv-loop μ-loop
-loop-again c = let line = c .before .before .before .before .before .args .line .now in let end = c .before .seek .result in let more : end ≡ length line → ⊥ = c .if1 .left in (omega (arith, more), sym (field-turn line (c .before .before .before .loop .at) end (c .before .seek .ensures .0) (c .before .before .before .loop .left) (omega arith)) ∙ c .before .before .before .loop .inv .1)
+loop-again c =
+    let turn = c .before .before .before in
+    let line = turn .before .before .args .line .now in
+    let end = c .before .seek .result in
+    let more : end ≡ length line → ⊥ = c .if1 .left in
+    let passed = field-turn line (turn .loop .at) end (c .before .seek .ensures .0) (turn .loop .left) (omega arith) in
+    (omega (arith, more), sym passed ∙ turn .loop .inv .1)
 
 seek-requires-2 : tie.Need-seek-requires-2 Inv-loop μ-loop
 seek-requires-2 c κs = search needs
@@ -58,7 +72,11 @@ part-result-end-2 : tie.Need-part-result-end-2 Inv-loop μ-loop
 part-result-end-2 c = search needs
 
 returns-2 : tie.Need-returns-2 Inv-loop μ-loop
-returns-2 c = let none : c .before .before .before .loop .left ≡ 0 = omega arith in field-last (c .before .before .before .before .before .args .line .now) (c .before .before .before .loop .at) (c .before .seek2 .result) (c .before .seek2 .ensures .0) ∙ rw none at (c .before .before .before .loop .inv .1)
+returns-2 c =
+    let turn = c .before .before .before in
+    let line = turn .before .before .args .line .now in
+    let none : turn .loop .left ≡ 0 = omega arith in
+    field-last line (turn .loop .at) (c .before .seek2 .result) (c .before .seek2 .ensures .0) ∙ rw none at (turn .loop .inv .1)
 
 pub field-spec : {M : Type 1} → statement M
 field-spec =

@@ -1,3 +1,5 @@
+-- Texts of two lengths differ (`alike-lengths`). Of one length they are gone through together: each turn drops a byte that both have (`alike-more`),
+-- the first that differs answers (`alike-not`), and so does the end of both (`alike-end`).
 use Prim.Native.Nat.{_-_, _≤_}
 use mathlib.Core.Path.{_≡_, sym, _∙_}
 use native.Mathlib.Omega.{arith}
@@ -27,7 +29,10 @@ shared-slice-read-if2-2 : tie.Need-shared-slice-read-if2-2 Inv-loop μ-loop
 shared-slice-read-if2-2 c = search needs
 
 returns-2 : tie.Need-returns-2 Inv-loop μ-loop
-returns-2 c = let a = c .before .before .before .before .before .before .args .a .now in let b = c .before .before .before .before .before .before .args .b .now in let i = c .before .before .before .before .loop .i in sym (sym (c .before .before .before .before .loop .inv .2) ∙ alike-not a b i (omega arith) (omega arith) (c .if2 .taken))
+returns-2 c =
+    let turn = c .before .before .before .before in
+    let args = turn .before .before .args in
+    sym (sym (turn .loop .inv .2) ∙ alike-not (args .a .now) (args .b .now) (turn .loop .i) (omega arith) (omega arith) (c .if2 .taken))
 
 add-i : tie.Need-add-i Inv-loop μ-loop
 add-i c = search needs
@@ -36,10 +41,17 @@ loop-less : tie.Need-loop-less Inv-loop μ-loop
 loop-less c = search needs
 
 loop-again : tie.Need-loop-again Inv-loop μ-loop
-loop-again c = let a = c .before .before .before .before .before .before .args .a .now in let b = c .before .before .before .before .before .before .args .b .now in let i = c .before .before .before .before .loop .i in (omega arith, omega arith, sym (alike-more a b i (omega arith) (omega arith) (c .if2 .left)) ∙ c .before .before .before .before .loop .inv .2)
+loop-again c =
+    let turn = c .before .before .before .before in
+    let args = turn .before .before .args in
+    let dropped = alike-more (args .a .now) (args .b .now) (turn .loop .i) (omega arith) (omega arith) (c .if2 .left) in
+    (omega arith, omega arith, sym dropped ∙ turn .loop .inv .2)
 
 returns-3 : tie.Need-returns-3 Inv-loop μ-loop
-returns-3 c = sym (sym (c .before .loop .inv .2) ∙ alike-end (c .before .before .before .args .a .now) (c .before .before .before .args .b .now) (c .before .loop .i) (omega arith) (omega arith))
+returns-3 c =
+    let turn = c .before in
+    let args = turn .before .before .args in
+    sym (sym (turn .loop .inv .2) ∙ alike-end (args .a .now) (args .b .now) (turn .loop .i) (omega arith) (omega arith))
 
 pub same-spec : {M : Type 1} → statement M
 same-spec =

@@ -1,3 +1,5 @@
+-- Byte by byte: the place sought is i and what stands from i on before the byte (`upTo-more`),
+-- which is nothing at the byte itself (`upTo-stop`) and at the end (`upTo-end`).
 use Prim.Native.Nat.{_+_, _-_, _≤_}
 use mathlib.Core.Path.{_≡_}
 use native.Mathlib.Omega.{arith}
@@ -21,7 +23,10 @@ shared-slice-read-if1 : tie.Need-shared-slice-read-if1 Inv-loop μ-loop
 shared-slice-read-if1 c = search needs
 
 returns : tie.Need-returns Inv-loop μ-loop
-returns c = let text = c .before .before .before .before .args .text .now in let i = c .before .before .before .loop .i in let byte = c .before .before .before .before .args .byte in (omega (arith, upTo-stop byte text i (omega arith) (c .if1 .taken)), (omega arith, omega arith))
+returns c =
+    let turn = c .before .before .before in
+    let a = turn .before .args in
+    (omega (arith, upTo-stop (a .byte) (a .text .now) (turn .loop .i) (omega arith) (c .if1 .taken)), (omega arith, omega arith))
 
 add-i : tie.Need-add-i Inv-loop μ-loop
 add-i c = search needs
@@ -30,10 +35,15 @@ loop-less : tie.Need-loop-less Inv-loop μ-loop
 loop-less c = search needs
 
 loop-again : tie.Need-loop-again Inv-loop μ-loop
-loop-again c = let text = c .before .before .before .before .args .text .now in let i = c .before .before .before .loop .i in let byte = c .before .before .before .before .args .byte in (omega arith, omega arith, omega (arith, upTo-more byte text i (omega arith) (c .if1 .left)))
+loop-again c =
+    let turn = c .before .before .before in
+    let a = turn .before .args in
+    (omega arith, omega arith, omega (arith, upTo-more (a .byte) (a .text .now) (turn .loop .i) (omega arith) (c .if1 .left)))
 
 returns-2 : tie.Need-returns-2 Inv-loop μ-loop
-returns-2 c = let text = c .before .before .args .text .now in let i = c .before .loop .i in (omega (arith, upTo-end (c .before .before .args .byte) text i (omega arith)), (omega arith, omega arith))
+returns-2 c =
+    let a = c .before .before .args in
+    (omega (arith, upTo-end (a .byte) (a .text .now) (c .before .loop .i) (omega arith)), (omega arith, omega arith))
 
 pub seek-spec : {M : Type 1} → statement M
 seek-spec =

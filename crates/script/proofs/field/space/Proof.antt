@@ -1,3 +1,4 @@
+-- One comparison: `space-is` where it holds, `space-not` where it doesn't.
 use mathlib.Core.Path.{sym}
 use native.Mathlib.Omega.{arith}
 use Rattle.script.proofs.Fields.{space-is, space-not}

@@ -1,3 +1,4 @@
+-- Byte by byte: a digit leaves the question to what stands behind it (`hex-more`), any other byte answers it (`hex-not`), and so does the end (`hex-end`).
 use Prim.Native.Nat.{_-_, _≤_}
 use mathlib.Core.Path.{_≡_, sym, _∙_}
 use native.Mathlib.Omega.{arith}
@@ -24,7 +25,11 @@ digit-value-requires : tie.Need-digit-value-requires Inv-loop μ-loop
 digit-value-requires c κs = search needs
 
 returns : tie.Need-returns Inv-loop μ-loop
-returns c = let field = c .before .before .before .before .before .before .args .field .now in let i = c .before .before .before .before .loop .i in sym (sym (c .before .before .before .before .loop .inv .1) ∙ hex-not field i (omega arith) (sym (c .before .digit-value .ensures .0) ∙ c .if1 .taken))
+returns c =
+    let turn = c .before .before .before .before in
+    let field = turn .before .before .args .field .now in
+    let other = sym (c .before .digit-value .ensures .0) ∙ c .if1 .taken in
+    sym (sym (turn .loop .inv .1) ∙ hex-not field (turn .loop .i) (omega arith) other)
 
 add-i : tie.Need-add-i Inv-loop μ-loop
 add-i c = search needs
@@ -33,7 +38,11 @@ loop-less : tie.Need-loop-less Inv-loop μ-loop
 loop-less c = search needs
 
 loop-again : tie.Need-loop-again Inv-loop μ-loop
-loop-again c = let field = c .before .before .before .before .before .before .args .field .now in let i = c .before .before .before .before .loop .i in (omega arith, sym (hex-more field i (omega arith) (λ e. c .if1 .left (c .before .digit-value .ensures .0 ∙ e))) ∙ c .before .before .before .before .loop .inv .1)
+loop-again c =
+    let turn = c .before .before .before .before in
+    let field = turn .before .before .args .field .now in
+    let digit = hex-more field (turn .loop .i) (omega arith) (λ e. c .if1 .left (c .before .digit-value .ensures .0 ∙ e)) in
+    (omega arith, sym digit ∙ turn .loop .inv .1)
 
 returns-2 : tie.Need-returns-2 Inv-loop μ-loop
 returns-2 c = sym (sym (c .before .loop .inv .1) ∙ hex-end (c .before .before .before .args .field .now) (c .before .loop .i) (omega arith))

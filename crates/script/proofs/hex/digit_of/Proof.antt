@@ -1,3 +1,4 @@
+-- One comparison: `digit-small` below ten, `digit-large` from ten on.
 use mathlib.Core.Path.{sym}
 use Rattle.script.proofs.Digits.{digit-small, digit-large}
 use borrow.Author.Needs.{needs}

@@ -1,3 +1,4 @@
+-- The bytes fall into five ranges, with a law for each.
 use mathlib.Core.Path.{sym}
 use native.Mathlib.Omega.{arith}
 use Rattle.script.proofs.Digits.{value-low, value-digit, value-between, value-letter, value-high}

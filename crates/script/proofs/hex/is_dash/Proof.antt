@@ -1,3 +1,4 @@
+-- One byte is compared with the dash (`dash-one`); a field of another length is none (`dash-other`).
 use mathlib.Core.Path.{sym}
 use Rattle.script.proofs.Digits.{dash-other, dash-one}
 use borrow.Author.Needs.{needs}

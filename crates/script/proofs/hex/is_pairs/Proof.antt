@@ -1,3 +1,4 @@
+-- A law for each question in its turn: `spells-none`, `spells-odd`, `spells-long`; past them `spells-digits` leaves it to the digits.
 use mathlib.Core.Path.{sym, _∙_}
 use native.Mathlib.Omega.{arith}
 use Rattle.script.proofs.Pairs.{spells-none, spells-odd, spells-long, spells-digits}

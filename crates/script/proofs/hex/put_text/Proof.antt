@@ -1,3 +1,4 @@
+-- Byte by byte: what was written and the text of the bytes left is the whole text (`text-turn`, `put-rest`), until none is left (`text-end`).
 use mathlib.Core.Path.{ap}
 use mathlib.Core.List.{[], _∷_}
 use Prim.Native.Nat.{_+_, _-_, _≤_}
@@ -17,6 +18,9 @@ Inv-loop bytes out₀ at next₀ i₀ out next i = (i ≤ length bytes) × Left 
 abbrev μ-loop : tie.MeasureT-loop
 μ-loop bytes out₀ at next₀ i₀ out next i = length bytes - i
 
+abbrev start : tie.At-loop Inv-loop μ-loop → tie.Start Inv-loop μ-loop
+start turn = turn .before .before .before
+
 loop-holds : tie.Need-loop-holds Inv-loop μ-loop
 loop-holds c = search needs
 
@@ -27,7 +31,9 @@ digit-of-requires : tie.Need-digit-of-requires Inv-loop μ-loop
 digit-of-requires c κs = omega (arith, c .shared-slice-known2 .given (c .before .before .loop .i) .fits)
 
 put-byte-requires : tie.Need-put-byte-requires Inv-loop μ-loop
-put-byte-requires c κs = omega (arith, ap length (text-turn (c .before .before .before .before .before .before .before .args .bytes .now) (c .before .before .before .before .loop .i) (omega arith)), c .before .before .before .before .before .before .before .pre)
+put-byte-requires c κs =
+    let turn = c .before .before .before .before in
+    omega (arith, ap length (text-turn (start turn .args .bytes .now) (turn .loop .i) (omega arith)), start turn .pre)
 
 shared-slice-read-digit-of-2 : tie.Need-shared-slice-read-digit-of-2 Inv-loop μ-loop
 shared-slice-read-digit-of-2 c = search needs
@@ -36,7 +42,11 @@ digit-of-requires-2 : tie.Need-digit-of-requires-2 Inv-loop μ-loop
 digit-of-requires-2 c κs = search needs
 
 put-byte-requires-2 : tie.Need-put-byte-requires-2 Inv-loop μ-loop
-put-byte-requires-2 c κs = omega (arith, put-length (c .before .before .before .before .before .put-byte .ensures), ap length (text-turn (c .before .before .before .before .before .before .before .before .before .before .before .before .before .args .bytes .now) (c .before .before .before .before .before .before .before .before .before .before .loop .i) (omega arith)), c .before .before .before .before .before .before .before .before .before .before .before .before .before .pre)
+put-byte-requires-2 c κs =
+    let high = c .before .before .before .before .before in
+    let turn = high .before .before .before .before .before in
+    let two = ap length (text-turn (start turn .args .bytes .now) (turn .loop .i) (omega arith)) in
+    omega (arith, put-length (high .put-byte .ensures), two, start turn .pre)
 
 add-i : tie.Need-add-i Inv-loop μ-loop
 add-i c = search needs
@@ -45,19 +55,25 @@ loop-less : tie.Need-loop-less Inv-loop μ-loop
 loop-less c = search needs
 
 loop-again : tie.Need-loop-again Inv-loop μ-loop
-loop-again c = let bytes = c .before .before .before .before .before .before .before .before .before .before .before .before .before .before .before .before .args .bytes .now in
-    let i = c .before .before .before .before .before .before .before .before .before .before .before .before .before .loop .i in (
-      omega arith,
-      put-rest {a = c .before .before .before .before .before .before .before .before .before .before .digit-of .result ∷ c .before .before .before .before .digit-of2 .result ∷ []} {b = hexText (drop (i + 1) bytes)}
-          (rw (text-turn bytes i (omega arith), ← c .before .before .before .before .before .before .before .before .before .before .digit-of .ensures, ← c .before .before .before .before .digit-of2 .ensures) at (c .before .before .before .before .before .before .before .before .before .before .before .before .before .loop .inv .1))
-          (put-then (c .before .before .before .before .before .before .before .before .put-byte .ensures) (c .before .before .put-byte2 .ensures)),
-    )
+loop-again c =
+    let low = c .before .before in
+    let high = low .before .before .before .before .before .before in
+    let turn = high .before .before .before .before .before in
+    let bytes = start turn .args .bytes .now in
+    let i = turn .loop .i in
+    let first = high .before .before .digit-of in
+    let second = low .before .before .digit-of2 in
+    let left = rw (text-turn bytes i (omega arith), ← first .ensures, ← second .ensures) at (turn .loop .inv .1) in
+    let both = put-then (high .put-byte .ensures) (low .put-byte2 .ensures) in
+    (omega arith, put-rest {a = first .result ∷ second .result ∷ []} {b = hexText (drop (i + 1) bytes)} left both)
 
 same-length : tie.Need-same-length Inv-loop μ-loop
 same-length c = search needs
 
 returns : tie.Need-returns Inv-loop μ-loop
-returns c = put-done (rw (text-end (c .before .before .before .before .args .bytes .now) (c .before .loop .i) (omega arith)) at (c .before .loop .inv .1))
+returns c =
+    let turn = c .before in
+    put-done (rw (text-end (start turn .args .bytes .now) (turn .loop .i) (omega arith)) at (turn .loop .inv .1))
 
 pub put-text-spec : {M : Type 1} → statement M
 put-text-spec =

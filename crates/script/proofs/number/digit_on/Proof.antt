@@ -1,3 +1,4 @@
+-- The byte is below 0, above 9, or a digit; with a digit the number passes 2^64 or fits. A law for each.
 use mathlib.Core.Path.{sym}
 use native.Mathlib.Omega.{arith}
 use Rattle.script.proofs.Numbers.{digit-low, digit-high, digit-large, digit-fits}

@@ -1,3 +1,4 @@
+-- A field of fewer than two bytes has none (`zero-short`); of any other the first byte tells (`zero-first`).
 use mathlib.Core.Path.{sym}
 use native.Mathlib.Omega.{arith}
 use Rattle.script.proofs.Numbers.{zero-short, zero-first}

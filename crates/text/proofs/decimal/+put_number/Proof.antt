@@ -1,3 +1,4 @@
+-- By recursion on n / 10: one digit alone (`decimal-small`), or the digits of n / 10 and one more behind them (`decimal-more`). The measure is n itself.
 use borrow.Author.Needs.{needs}
 use native.Mathlib.Omega.{arith}
 use lib.ListN.{length-set}
@@ -106,7 +107,9 @@ put-number-returns-2 : (t : ℕ) → put-number-lts.Need-returns-2 (
   put-number-below t,
   put-number.Post,
 ) (put-number-at t) put-number.Post
-put-number-returns-2 t c = rw (decimal-more (c .before .before .before .before .before .before .args .n) (omega arith)) (put-then (c .before .before .put-number .ensures) (put-one _ _ _))
+put-number-returns-2 t c =
+    let n = c .before .before .before .before .before .before .args .n in
+    rw (decimal-more n (omega arith)) (put-then (c .before .before .put-number .ensures) (put-one _ _ _))
 
 pub +put-number-spec : {M : Type 1} → statement M
 +put-number-spec = close μ-put-number λ t. put-number-lts.spec (

@@ -1,3 +1,4 @@
+-- Twenty bytes are room for every number of 64 bits (`decimal-twenty`); that its text reads back is `decimal-numeral`.
 use native.Mathlib.Omega.{arith}
 use Rattle.text.proofs.Numerals.{decimal-twenty, decimal-numeral}
 use Rattle.text.proofs.Writing.{put-front}

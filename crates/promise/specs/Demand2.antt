@@ -16,7 +16,7 @@ use Rattle.create_rules.specs.{Create.created, Create.afterCreate, declared.Cre
 use Rattle.emit_rules.specs.{declared.Outcome.Outcome}
 use Rattle.emit_rules.specs.declared.Outcome.the-variants.{Done, Wake, Dropped, Refused}
 use Rattle.inspect_rules.specs.{Inspect.inspected, declared.Inspected.the-variants.Whole}
-use Rattle.writer_rules.specs.{declared.Writer.Writer}
+use Rattle.writer_rules.specs.{Writer.zeros}
 use Rattle.run_rules.specs.{Runs.lastOf, Runs.firstOf, Runs.total, Runs.LongestRun}
 use Rattle.history.specs.{Ring.sequenceOf, Ring.Numbered, Ring.Ring, Ring.fresh, Ring.write, Calls.uses, Calls.used, Calls.droppedOf}
 use Rattle.promise.specs.{Bytes.Event, Bytes.size, Bytes.taken, Bytes.encode, Bytes.State, Bytes.consumed, Bytes.Turn, Bytes.uncalled, Bytes.Emission, Bytes.Made, Bytes.madeBy, Bytes.afterBy, Bytes.operation, Bytes.made, Bytes.after, Bytes.answerOf, Bytes.callOf, Bytes.acceptedOf, Bytes.raises, Bytes.outcomesOf, Holds.Holds}
@@ -95,10 +95,6 @@ abbrev pub Demand2 : Type 0
 Demand2 =
     (cpu capacity : ℕ) (beginning : Ring Event) (s : State) → Holds cpu capacity (s .ring) (s .writer) beginning → (turns : List Turn) →
     Promise cpu capacity beginning (uncalled (s .ring) turns) (made s turns) (after s turns)
-
--- "all 0 with a fresh ring"
-abbrev pub zeros : Writer
-zeros = record { last = 0; dropped = 0; overwritten = 0 }
 
 -- what creation leaves, and the record that goes with it
 abbrev pub createdState : ℕ → List ℕ → State

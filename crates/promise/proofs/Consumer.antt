@@ -41,10 +41,10 @@ module _ (s t : List ℕ) (same : Elsewhere s t) where
     tail-is = rw elsewhere-page (h .tail-is);
     write-is = rw elsewhere-page (h .write-is);
     bytes-are = rw elsewhere-page (live-same s t (same .beyond) (pageOf s) ∙ h .bytes-are);
-    right = h .right;
     last-is = h .last-is;
     dropped-is = h .dropped-is;
     overwritten-is = h .overwritten-is;
+    right = h .right;
     holding = h .holding;
   }
 

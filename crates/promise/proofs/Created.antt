@@ -55,10 +55,10 @@ module _ (cpu capacity : ℕ) (narrow : cpu < 2 ^ 16) (fit : allowed capacity �
     tail-is = sym (ap (λ (p : Page). p .«tail_pos») says);
     write-is = sym (ap (λ (p : Page). p .«write_pos») says);
     bytes-are = ap (live clean) (sym says) ∙ nothing-live;
-    right = zeros-right;
     last-is = zeros-numbers .last-is;
     dropped-is = zeros-numbers .dropped-is;
     overwritten-is = zeros-numbers .overwritten-is;
+    right = zeros-right;
     holding = fresh-holds size capacity;
   }
 

@@ -105,10 +105,10 @@ module _ (cpu capacity : ℕ) (s : List ℕ) (w : Writer) (ring : Ring Event) (e
       tail-is = h .tail-is;
       write-is = h .write-is;
       bytes-are = h .bytes-are;
-      right = dropped-right w (e .class) (h .right);
       last-is = dropped-numbers w (e .class) .last-is ∙ ap (λ (n : ℕ). n + 1) (h .last-is);
       dropped-is = dropped-numbers w (e .class) .dropped-is ∙ ap (λ (n : ℕ). n + 1) (h .dropped-is);
       overwritten-is = dropped-numbers w (e .class) .overwritten-is ∙ h .overwritten-is;
+      right = dropped-right w (e .class) (h .right);
       holding = next;
     };
     leaves = unchanged;
@@ -234,10 +234,10 @@ module _ (cpu capacity : ℕ) (s : List ℕ) (w : Writer) (ring : Ring Event) (e
                 ∙ ap₂ (λ (n : ℕ) (l : List ℕ). drop n l ++ event) back (h .bytes-are)
                 ∙ ap₂ (λ (l d : List ℕ). l ++ d) (drop-older cpu capacity (size e) (omega arith) (ring .kept)) event-is
                 ∙ sym (joined-one cpu rest (new ring e));
-            right = accepted-right w (length gone) gone-held (h .right);
             last-is = accepted-numbers w (length gone) .last-is ∙ ap (λ (n : ℕ). n + 1) (h .last-is);
             dropped-is = accepted-numbers w (length gone) .dropped-is ∙ h .dropped-is;
             overwritten-is = accepted-numbers w (length gone) .overwritten-is ∙ ap (λ (n : ℕ). n + length gone) (h .overwritten-is);
+            right = accepted-right w (length gone) gone-held (h .right);
             holding = next;
           };
           leaves = left-by;

@@ -121,11 +121,11 @@ module _ (cpu before : ℕ) (s : State) (ring : Ring Event) (h : Holds cpu befor
           tail-is = sym (ap (λ (q : Page). q .«tail_pos») says);
           write-is = sym (ap (λ (q : Page). q .«write_pos») says) ∙ omega (arith, ap length bytes-are, joined-length cpu kept);
           bytes-are = ap (live (after .new)) (sym says) ∙ exchanged .holds ∙ bytes-are;
-          right = exchanged .right;
           last-is = omega (arith, exchanged .last-same, h .last-is);
           dropped-is = omega (arith, exchanged .dropped-same, h .dropped-is);
           overwritten-is =
               omega (arith, exchanged .balanced, exchanged .dropped-same, count, moved .overwritten, h .last-is, h .dropped-is, h .holding .counts);
+          right = exchanged .right;
           holding = moved .holding;
         }
 
@@ -141,10 +141,10 @@ module _ (cpu before : ℕ) (s : State) (ring : Ring Event) (h : Holds cpu befor
           tail-is = sym (ap (λ (q : Page). q .«tail_pos») says) ∙ h .tail-is;
           write-is = sym (ap (λ (q : Page). q .«write_pos») says) ∙ h .write-is;
           bytes-are = ap (live (after .old)) (sym says) ∙ exchanged .unchanged ∙ h .bytes-are;
-          right = h .right;
           last-is = h .last-is;
           dropped-is = h .dropped-is;
           overwritten-is = h .overwritten-is;
+          right = h .right;
           holding = h .holding;
         }
 

@@ -19,10 +19,10 @@ pub record Holds (cpu capacity : ℕ) (s : List ℕ) (w : Writer) (ring : Ring E
   pub tail-is : pageOf s .«tail_pos» ≡ ring .tail
   pub write-is : pageOf s .«write_pos» ≡ write size ring
   pub bytes-are : live s (pageOf s) ≡ joined (map (encode cpu) (ring .kept))
-  -- 7 doesn't meet the record
-  pub right : wrongWriter w ≡ false
   pub last-is : w .last ≡ ring .last
   pub dropped-is : w .dropped ≡ ring .dropped
   pub overwritten-is : w .overwritten ≡ ring .overwritten
+  -- 7 doesn't meet the record
+  pub right : wrongWriter w ≡ false
   -- the kept events fit, their sequences rise from above 0 to at most last, last = kept + dropped + overwritten
   pub holding : Holding size capacity ring

@@ -84,7 +84,7 @@ pub extern "C" fn bench_swap(old: &mut [u8], new: &mut [u8], record: &mut [u8]) 
         return answer_number(BenchAnswer::RecordLength);
     }
     let writer = read(record);
-    let swapped = swap::swap::swap(old, new, writer);
+    let swapped = swap::swap(old, new, writer);
     let told = swapped.outcome;
     let next = swapped.writer;
     let outcome = same_outcome(told);

@@ -13,6 +13,7 @@ use Rattle.reader_rules.specs.declared.Reader.{Reader}
 use Rattle.reader_rules.specs.declared.Attached.{Attached}
 use Rattle.run_rules.specs.Runs.{lastOf, LongestRun, latest}
 use Rattle.run_rules.proofs.Runs.{longest-iff, longest-latest}
+use Rattle.writer_rules.specs.Writer.{zeros}
 use Rattle.history.specs.Ring.{sequenceOf, Numbered, bytes, fresh}
 use Rattle.history.specs.Calls.{Call, accepted}
 use Rattle.history.proofs.Ideal.{calls, after as afterCalls}
@@ -22,7 +23,6 @@ use Rattle.history.proofs.Emptying.{finished, following-finished}
 use Rattle.history.proofs.Served.{Attended, done-is}
 use Rattle.promise.specs.Bytes.{Event, size, encode, Turn}
 use Rattle.promise.specs.Holds.{Holds}
-use Rattle.promise.specs.Demand2.{zeros}
 use Rattle.promise.proofs.Encoding.{encode-lengths}
 use Rattle.promise.proofs.Created.{created-holds}
 use Rattle.promise.proofs.Demand2.{same-calls}

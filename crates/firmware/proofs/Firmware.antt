@@ -5,6 +5,7 @@ use mathlib.Core.List.{List, [], _∷_}
 use lib.ListN.{replicate}
 use Rattle.word_rules.specs.Number.{byteOf, put}
 use Rattle.word_rules.specs.Fields.{putAll}
+use Rattle.writer_rules.specs.Writer.{zeros}
 use Rattle.create_rules.specs.Create.{created}
 use Rattle.console_rules.specs.Console.{createdNumber, emittedNumber, recordOf, bytesOf, Called}
 use Rattle.history.specs.Ring.{Ring, fresh, write}
@@ -12,7 +13,7 @@ use Rattle.history.proofs.Ideal.{emit}
 use Rattle.promise.specs.Bytes.{Event, size, State, Turn, uncalled, left, Made, madeBy, made, afterBy, after}
 use Rattle.promise.proofs.Opened.{emitted}
 use Rattle.promise.specs.Holds.{Holds}
-use Rattle.promise.specs.Demand2.{waiting, shown, zeros, createdState, Promise}
+use Rattle.promise.specs.Demand2.{waiting, shown, createdState, Promise}
 use Rattle.promise.proofs.Demand2.{turn-step}
 use Rattle.promise.proofs.Created.{created-done, created-holds, fresh2}
 use Rattle.firmware.specs.Firmware.{asSeen, setUp, seenCalls, lastCall, Firmware2}
@@ -40,7 +41,7 @@ module _ (cpu capacity : ℕ) where
 
 -- the record that goes with a fresh ring is of zero bytes
 zero-bytes : replicate 24 0 ≡ bytesOf zeros
-unfolding bytesOf putAll put byteOf
+unfolding bytesOf putAll put byteOf zeros
 zero-bytes = refl
 
 pub firmware2 : Firmware2

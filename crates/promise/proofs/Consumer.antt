@@ -44,6 +44,7 @@ module _ (s t : List ℕ) (same : Elsewhere s t) where
     last-is = h .last-is;
     dropped-is = h .dropped-is;
     overwritten-is = h .overwritten-is;
+    right = h .right;
     holding = h .holding;
   }
 

@@ -15,6 +15,8 @@ use Rattle.page_rules.proofs.Sound.{opens-sound}
 use Rattle.region_rules.specs.Region.{bytesAt}
 use Rattle.event_rules.specs.Run.{joined}
 use Rattle.look_rules.specs.Live.{rest, live}
+use Rattle.writer_rules.specs.Writer.{zeros}
+use Rattle.writer_rules.proofs.Laws.{zeros-numbers, zeros-right}
 use Rattle.create_rules.specs.Create.{wrongSize, created, afterCreate}
 use Rattle.create_rules.specs.declared.Created.the-variants as creates
 use Rattle.create_rules.proofs.Laws.{size-passed}
@@ -22,7 +24,7 @@ use Rattle.history.specs.Ring.{fresh}
 use Rattle.history.proofs.Emission.{fresh-holds}
 use Rattle.promise.specs.Bytes.{size, encode}
 use Rattle.promise.specs.Holds.{Holds}
-use Rattle.promise.specs.Demand2.{zeros, createdState, Fresh2}
+use Rattle.promise.specs.Demand2.{createdState, Fresh2}
 use Rattle.promise.proofs.Layers.{blank-small}
 use Rattle.promise.proofs.Demand2.{demand2}
 
@@ -53,9 +55,10 @@ module _ (cpu capacity : ℕ) (narrow : cpu < 2 ^ 16) (fit : allowed capacity �
     tail-is = sym (ap (λ (p : Page). p .«tail_pos») says);
     write-is = sym (ap (λ (p : Page). p .«write_pos») says);
     bytes-are = ap (live clean) (sym says) ∙ nothing-live;
-    last-is = refl;
-    dropped-is = refl;
-    overwritten-is = refl;
+    last-is = zeros-numbers .last-is;
+    dropped-is = zeros-numbers .dropped-is;
+    overwritten-is = zeros-numbers .overwritten-is;
+    right = zeros-right;
     holding = fresh-holds size capacity;
   }
 

@@ -9,6 +9,7 @@ use Rattle.page_rules.specs.Wake.{futexCounter}
 use Rattle.event_rules.specs.Run.{joined}
 use Rattle.emit_rules.specs.declared.Outcome.{Outcome}
 use Rattle.run_rules.specs.Runs.{total, latest}
+use Rattle.writer_rules.proofs.Laws.{same-writer}
 use Rattle.history.specs.Ring.{Numbered, Ring, write}
 use Rattle.history.specs.Calls.{Call, uses, used, droppedOf, accepted}
 use Rattle.run_rules.proofs.Runs.{longest-latest}
@@ -59,9 +60,12 @@ decided2 cpu capacity beginning without calls others one other e p q =
     ∙ ap (latest length-of capacity) all
     ∙ sym (longest-latest length-of capacity (beginning .kept ++ acceptedOf others) (q .kept) (q .longest)) in
     let drops : droppedOf (map callOf calls) ≡ droppedOf (map callOf others) = ap droppedOf (same .1) in
-    let last : one .writer .last ≡ other .writer .last = omega (arith, p .last, q .last, ap used (same .1)) in
-    let dropped : one .writer .dropped ≡ other .writer .dropped = omega (arith, p .dropped, q .dropped) in
-    let overwritten : one .writer .overwritten ≡ other .writer .overwritten = omega (arith, p .counts, q .counts, ap length kept) in
+    let writer : one .writer ≡ other .writer =
+    same-writer (one .writer) (other .writer) (record {
+      last-is = omega (arith, p .last, q .last, ap used (same .1));
+      dropped-is = omega (arith, p .dropped, q .dropped);
+      overwritten-is = omega (arith, p .counts, q .counts, p .last, q .last, p .dropped, q .dropped, ap used (same .1), ap length kept);
+    }) in
     let far : pageOf (one .ring) .«write_pos» ≡ pageOf (other .ring) .«write_pos» =
     p .written ∙ ap (λ (ks : List (Call Event)). write size beginning + taken (accepted ks)) (same .1) ∙ sym (q .written) in
     let near : pageOf (one .ring) .«tail_pos» ≡ pageOf (other .ring) .«tail_pos» = omega (arith, p .holds .write-is, q .holds .write-is, ap taken kept) in
@@ -72,5 +76,5 @@ decided2 cpu capacity beginning without calls others one other e p q =
     ∙ (λ i. layer capacity (write size beginning) without (events i) (far i) (near i) (futexCounter without + total raises (same .0 i)))
     ∙ sym (q .ring) in (
       same .0,
-      λ i. record { ring = ring i; writer = record { last = last i; dropped = dropped i; overwritten = overwritten i } },
+      λ i. record { ring = ring i; writer = writer i },
     )

@@ -1,8 +1,7 @@
--- What is told of bytes and a record that hold a ring: the page opens, the record is right, and inspection finds the kept events.
+-- What is told of bytes and a record that hold a ring: the capacity is in its range, and inspection finds the kept events.
 use Prim.Native.Nat.{ℕ, _≤_}
 use native.Mathlib.Omega.{arith}
 use mathlib.Core.Path.{_≡_, sym, ap, _∙_, subst}
-use mathlib.Core.Bool.{false}
 use mathlib.Core.List.{List, map}
 use lib.ListN.{length, length-map}
 use Rattle.run_rules.specs.Runs.{lastOf, firstOf}
@@ -10,9 +9,7 @@ use Rattle.capacity_rules.proofs.Laws.{allowed-range}
 use Rattle.page_rules.specs.Page.{pageOf}
 use Rattle.event_rules.specs.Event.{sequence}
 use Rattle.event_rules.proofs.Facts.{Whole}
-use Rattle.writer_rules.specs.Writer.{wrongWriter}
 use Rattle.writer_rules.specs.declared.Writer.{Writer}
-use Rattle.writer_rules.proofs.Laws.{not-wrong}
 use Rattle.inspect_rules.specs.Inspect.{walked, surveyed, summary, inspected}
 use Rattle.inspect_rules.specs.declared.Survey.{Survey}
 use Rattle.inspect_rules.specs.declared.Inspected.the-variants as answers
@@ -27,14 +24,6 @@ use Rattle.promise.proofs.Encoding.{encode-whole, encode-first}
 module _ (cpu capacity : ℕ) (s : List ℕ) (w : Writer) (ring : Ring Event) (h : Holds cpu capacity s w ring) where
   pub holds-range : (256 ≤ capacity) × (capacity ≤ 1048576)
   holds-range = let r = allowed-range (pageOf s .capacity) (sound-of h .fit) in (omega (arith, r .0, h .sized), omega (arith, r .1, h .sized))
-
-  -- refusal 7 doesn't meet the record
-  pub holds-counted : wrongWriter w ≡ false
-  holds-counted =
-      not-wrong w (record {
-        dropped-le = omega (arith, h .last-is, h .dropped-is, h .holding .counts);
-        overwritten-le = omega (arith, h .last-is, h .dropped-is, h .overwritten-is, h .holding .counts);
-      })
 
   pub holds-whole : Whole cpu 0 (map (encode cpu) (ring .kept)) × (lastOf sequence 0 (map (encode cpu) (ring .kept)) ≡ lastOf sequenceOf 0 (ring .kept))
   holds-whole =

@@ -193,7 +193,7 @@ module _ (s : List ℕ) (p : Page) (is : opened s ≡ opens.Page p) (at : ℕ) w
     abbrev says : AfterEmit → Type 0
     says a = a .answer .outcome ≡ emits.Refused (refusal.Damaged at)
 
-    dropped-says : says (dropped s w) → Stuck
+    dropped-says : says (dropped s w label) → Stuck
     unfolding dropped
     dropped-says q = differ (cc)
 

@@ -23,6 +23,7 @@ use Rattle.event_rules.specs.Run.{joined}
 use Rattle.event_rules.proofs.Made.{made-before}
 use Rattle.event_rules.proofs.Facts.{Fit, heading}
 use Rattle.look_rules.specs.Live.{live}
+use Rattle.writer_rules.specs.Writer.{zeros}
 use Rattle.emit_rules.specs.Emit.{dropped}
 use Rattle.emit_rules.specs.declared.Outcome.the-variants.{Wake, Dropped, Refused}
 use Rattle.run_rules.specs.Runs.{latest, older}
@@ -200,7 +201,7 @@ module _ (buffer : List ℕ) (long : length buffer ≡ 8192 + 256) (page : List 
   -- at its second call it moves the position
   moves-later : (time : ℕ) (fits : time < 2 ^ 64)
       → afterBy storingFirst begun (twice time fits) .ring ≡ called moving (after begun (first ∷ [])) (turn time fits) .ring
-  unfolding afterBy
+  unfolding afterBy zeros
   moves-later time fits =
       let s : State = after begun (first ∷ []) in
       ap (λ (last : ℕ). cond (eqb last 0) (emitted s (turn time fits)) (called moving s (turn time fits)) .ring) one-given

@@ -22,8 +22,9 @@ use Rattle.event_rules.specs.Walk.{walkFrom}
 use Rattle.event_rules.specs.declared.Walk.the-variants.{Room}
 use Rattle.event_rules.proofs.Facts.{aimed, heading}
 use Rattle.look_rules.specs.Live.{live}
-use Rattle.writer_rules.specs.Writer.{wrongWriter}
+use Rattle.writer_rules.specs.Writer.{outstanding}
 use Rattle.writer_rules.specs.declared.Writer.{Writer}
+use Rattle.writer_rules.proofs.Laws.{dropped-numbers, dropped-right, accepted-numbers, accepted-right, outstanding-is}
 use Rattle.emit_rules.specs.Emit.{AfterEmit, refuse, dropped, eventOf, stored, accepting, acceptance, emittedOn, emission}
 use Rattle.emit_rules.proofs.Laws.{event-length, stored-wake}
 use Rattle.emit_rules.proofs.Cases.{on-sound, spent, is-dropped, too-far, is-placed, agreed}
@@ -42,7 +43,7 @@ use Rattle.promise.specs.Demand2.{Acceptable, Given}
 use Rattle.promise.proofs.Encoding.{joined-one, drop-older, walk-older}
 use Rattle.emit_rules.proofs.Stored.{stored-cpu, stored-capacity, stored-write, stored-tail, stored-sound, stored-live}
 use Rattle.promise.proofs.Layers.{Bytewise, layer, layer-none, notified-small, all-small, put-own, number-small}
-use Rattle.promise.proofs.Holds.{holds-counted, holds-whole}
+use Rattle.promise.proofs.Holds.{holds-whole}
 
 -- the bytes that a call adds to the data
 abbrev pub added : ℕ → Event → AfterEmit → List ℕ
@@ -91,7 +92,7 @@ module _ (cpu capacity : ℕ) (s : List ℕ) (w : Writer) (ring : Ring Event) (e
   goes-far some half far = record { answer = refl; given = inr (refl, some, omega arith, omega arith); holds = h; leaves = unchanged }
 
   goes-dropped : ring .last ≢ 2 ^ 64 - 1 → capacity / 2 < size e → Holding size capacity (dropping size ring)
-      → goes (dropped s w) (record { answer = Dropped; next = dropping size ring })
+      → goes (dropped s w (labelOf e)) (record { answer = Dropped; next = dropping size ring })
   unfolding dropped
   goes-dropped some above next = record {
     answer = refl;
@@ -105,9 +106,10 @@ module _ (cpu capacity : ℕ) (s : List ℕ) (w : Writer) (ring : Ring Event) (e
       tail-is = h .tail-is;
       write-is = h .write-is;
       bytes-are = h .bytes-are;
-      last-is = ap (λ (n : ℕ). n + 1) (h .last-is);
-      dropped-is = ap (λ (n : ℕ). n + 1) (h .dropped-is);
-      overwritten-is = h .overwritten-is;
+      last-is = dropped-numbers w (e .class) .last-is ∙ ap (λ (n : ℕ). n + 1) (h .last-is);
+      dropped-is = dropped-numbers w (e .class) .dropped-is ∙ ap (λ (n : ℕ). n + 1) (h .dropped-is);
+      overwritten-is = dropped-numbers w (e .class) .overwritten-is ∙ h .overwritten-is;
+      right = dropped-right w (e .class) (h .right);
       holding = next;
     };
     leaves = unchanged;
@@ -126,6 +128,13 @@ module _ (cpu capacity : ℕ) (s : List ℕ) (w : Writer) (ring : Ring Event) (e
 
   abbrev gone : List (Numbered Event)
   gone = older (bytes size) (capacity - size e) (ring .kept)
+
+  -- they are among those that the record says the ring holds, so 11 doesn't meet the emission
+  gone-agreed : w .overwritten + length gone ≤ w .last - w .dropped
+  gone-agreed = omega (arith, passed-counted size capacity (capacity - size e) ring (h .holding), h .overwritten-is, h .last-is, h .dropped-is)
+
+  gone-held : length gone ≤ outstanding w
+  gone-held = omega (arith, gone-agreed, outstanding-is w)
 
   abbrev rest : List (Numbered Event)
   rest = latest (bytes size) (capacity - size e) (ring .kept)
@@ -192,7 +201,8 @@ module _ (cpu capacity : ℕ) (s : List ℕ) (w : Writer) (ring : Ring Event) (e
         event-is
         ∙ ap (λ (n : ℕ). encode cpu (record { sequence = n + 1; event = e })) (sym (h .last-is))
         ∙ sym (append-nil (encode cpu x))
-        ∙ ap (λ (a : Answer). joined (map (encode cpu) (accepts a x))) (sym (told-answer waits))
+        ∙ ap₂ (λ (a : Answer) (n : ℕ). joined (map (encode cpu) (accepts a (record { sequence = n; event = e }))))
+        (sym (told-answer waits)) (sym (accepted-numbers w (length gone) .last-is))
 
     left-by : notified moved
         ≡ layer capacity (write size ring) s (added cpu e (acceptance s p w event there (length gone))) (pageOf (notified moved) .«write_pos»)
@@ -225,9 +235,10 @@ module _ (cpu capacity : ℕ) (s : List ℕ) (w : Writer) (ring : Ring Event) (e
                 ∙ ap₂ (λ (n : ℕ) (l : List ℕ). drop n l ++ event) back (h .bytes-are)
                 ∙ ap₂ (λ (l d : List ℕ). l ++ d) (drop-older cpu capacity (size e) (omega arith) (ring .kept)) event-is
                 ∙ sym (joined-one cpu rest (new ring e));
-            last-is = ap (λ (n : ℕ). n + 1) (h .last-is);
-            dropped-is = h .dropped-is;
-            overwritten-is = ap (λ (n : ℕ). n + length gone) (h .overwritten-is);
+            last-is = accepted-numbers w (length gone) .last-is ∙ ap (λ (n : ℕ). n + 1) (h .last-is);
+            dropped-is = accepted-numbers w (length gone) .dropped-is ∙ h .dropped-is;
+            overwritten-is = accepted-numbers w (length gone) .overwritten-is ∙ ap (λ (n : ℕ). n + length gone) (h .overwritten-is);
+            right = accepted-right w (length gone) gone-held (h .right);
             holding = next;
           };
           leaves = left-by;
@@ -237,9 +248,6 @@ module _ (cpu capacity : ℕ) (s : List ℕ) (w : Writer) (ring : Ring Event) (e
 
   abbrev sent : AfterEmit
   sent = emission s w (labelOf e) (e .payload)
-
-  right : wrongWriter w ≡ false
-  right = holds-counted cpu capacity s w ring h
 
   -- the record says the same as the ring without bytes
   unspent : ring .last ≢ 2 ^ 64 - 1 → w .last ≡ 2 ^ 64 - 1 → ⊥
@@ -253,20 +261,20 @@ module _ (cpu capacity : ℕ) (s : List ℕ) (w : Writer) (ring : Ring Event) (e
       emit-cases size (λ (m : Emitted (Ring Event)). Holding size capacity (m .next) → goes sent m) capacity ring e
       (λ none next.
       subst (λ (a : AfterEmit). goes a (record { answer = Refused 8; next = ring }))
-      (sym (opens ∙ spent s w (labelOf e) (e .payload) p right (h .last-is ∙ none))) (goes-spent none))
+      (sym (opens ∙ spent s w (labelOf e) (e .payload) p (h .right) (h .last-is ∙ none))) (goes-spent none))
       (λ some above next.
       subst (λ (a : AfterEmit). goes a (record { answer = Dropped; next = dropping size ring }))
-      (sym (opens ∙ is-dropped s w (labelOf e) (e .payload) p right (unspent some) (omega (arith, half-is)))) (goes-dropped some above next))
+      (sym (opens ∙ is-dropped s w (labelOf e) (e .payload) p (h .right) (unspent some) (omega (arith, half-is)))) (goes-dropped some above next))
       (λ some half far next.
       subst (λ (a : AfterEmit). goes a (record { answer = Refused 9; next = ring }))
-      (sym (opens ∙ too-far s w (labelOf e) (e .payload) p right (unspent some) (omega (arith, half-is)) (omega (arith, h .write-is))))
+      (sym (opens ∙ too-far s w (labelOf e) (e .payload) p (h .right) (unspent some) (omega (arith, half-is)) (omega (arith, h .write-is))))
       (goes-far some half far))
       (λ some half near next.
       subst (λ (a : AfterEmit). goes a (record { answer = Done; next = storing size capacity ring e }))
       (sym
-      (opens ∙ is-placed s w (labelOf e) (e .payload) p right (unspent some) (omega (arith, half-is)) (omega (arith, h .write-is))
+      (opens ∙ is-placed s w (labelOf e) (e .payload) p (h .right) (unspent some) (omega (arith, half-is)) (omega (arith, h .write-is))
       ∙ agreed s w (labelOf e) (e .payload) p (ring .tail + total (bytes size) gone) (length gone) (walk-ends some half near)
-      (omega (arith, passed-counted size capacity (capacity - size e) ring (h .holding), h .overwritten-is, h .last-is, h .dropped-is))))
+      gone-agreed))
       (goes-stored some half near next))
       (one2 size capacity ring e (h .holding) .holding)
     where

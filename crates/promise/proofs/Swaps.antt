@@ -23,8 +23,7 @@ use Rattle.region_rules.specs.Region.{storeAt}
 use Rattle.region_rules.proofs.Storing.{store-below}
 use Rattle.event_rules.specs.Run.{joined}
 use Rattle.look_rules.specs.Live.{live}
-use Rattle.writer_rules.specs.Writer.{wrongWriter}
-use Rattle.writer_rules.proofs.Laws.{counted}
+use Rattle.writer_rules.proofs.Laws.{counted, outstanding-is}
 use Rattle.create_rules.specs.Create.{wrongSize}
 use Rattle.create_rules.proofs.Laws.{right-size}
 use Rattle.inspect_rules.specs.Inspect.{walked}
@@ -45,7 +44,7 @@ use Rattle.promise.specs.Holds.{Holds}
 use Rattle.promise.proofs.Opened.{sound-of}
 use Rattle.promise.specs.Swaps.{swap, swapped, keeping, SwapPromise, Swaps}
 use Rattle.promise.proofs.Encoding.{encode-lengths, encode-latest, joined-length}
-use Rattle.promise.proofs.Holds.{holds-counted, walked-kept, holds-surveyed}
+use Rattle.promise.proofs.Holds.{walked-kept, holds-surveyed}
 use Rattle.promise.proofs.Layers.{Bytewise, put-small, all-small, notified-small, blank-small, number-small}
 use Rattle.promise.proofs.Demand2.{demand2}
 
@@ -70,12 +69,12 @@ module _ (cpu before : ℕ) (s : State) (ring : Ring Event) (h : Holds cpu befor
     pub carriable : Carriable (s .ring) p t (s .writer)
     carriable = record {
       sound = sound-of h;
-      counted = counted (s .writer) (holds-counted cpu before (s .ring) (s .writer) ring h);
+      counted = counted (s .writer) (h .right);
       sized = ap allowed size-is ∙ fit;
       later = later;
       whole = ap (λ (v : Survey). v .stop) (holds-surveyed cpu before (s .ring) (s .writer) ring h);
       agreed = ap (λ (v : Survey). v .count) (holds-surveyed cpu before (s .ring) (s .writer) ring h)
-          ∙ omega (arith, h .last-is, h .dropped-is, h .overwritten-is, h .holding .counts);
+          ∙ omega (arith, outstanding-is (s .writer), h .last-is, h .dropped-is, h .overwritten-is, h .holding .counts);
     }
 
     pub exchanged : Exchanged (s .ring) p (s .writer) (length t - 8192) (latest length (length t - 8192) (walked (s .ring) p)) after
@@ -126,6 +125,7 @@ module _ (cpu before : ℕ) (s : State) (ring : Ring Event) (h : Holds cpu befor
           dropped-is = omega (arith, exchanged .dropped-same, h .dropped-is);
           overwritten-is =
               omega (arith, exchanged .balanced, exchanged .dropped-same, count, moved .overwritten, h .last-is, h .dropped-is, h .holding .counts);
+          right = exchanged .right;
           holding = moved .holding;
         }
 
@@ -144,6 +144,7 @@ module _ (cpu before : ℕ) (s : State) (ring : Ring Event) (h : Holds cpu befor
           last-is = h .last-is;
           dropped-is = h .dropped-is;
           overwritten-is = h .overwritten-is;
+          right = h .right;
           holding = h .holding;
         }
 
@@ -202,9 +203,6 @@ module _ (cpu before : ℕ) (s : State) (ring : Ring Event) (h : Holds cpu befor
   abbrev outcome : SwapOutcome
   outcome = swap s t .answer .outcome
 
-  right : wrongWriter (s .writer) ≡ false
-  right = holds-counted cpu before (s .ring) (s .writer) ring h
-
   opens : after ≡ exchangeOn (s .ring) p t (s .writer)
   opens = on-sound (s .ring) t (s .writer) p (sound-of h)
 
@@ -214,10 +212,10 @@ module _ (cpu before : ℕ) (s : State) (ring : Ring Event) (h : Holds cpu befor
     where
       by : (a b : Bool) → wrongSize t ≡ a → lastGeneration p ≡ b
           → outcome ≡ first ((a, Size) ∷ (b, Generation) ∷ []) Refused (exchanging (wakes (needWake (s .ring))))
-      by true b e f = ap (λ (a : AfterSwap). a .answer .outcome) (opens ∙ size-refused (s .ring) t (s .writer) p right e)
+      by true b e f = ap (λ (a : AfterSwap). a .answer .outcome) (opens ∙ size-refused (s .ring) t (s .writer) p (h .right) e)
       by false true e f =
           ap (λ (a : AfterSwap). a .answer .outcome)
-          (opens ∙ generation-refused (s .ring) t (s .writer) p right e (eqb-true (p .generation) (2 ^ 64 - 1) f))
+          (opens ∙ generation-refused (s .ring) t (s .writer) p (h .right) e (eqb-true (p .generation) (2 ^ 64 - 1) f))
       by false false e f = ap (λ (a : AfterSwap). a .answer .outcome) (carried e f)
 
   promises : ((r : Refusal) → outcome ≢ Refused r) → SwapPromise cpu before ring s t

@@ -5,6 +5,7 @@ use lib.{ListN.length, ListN.set, Dec.eqb}
 use Rattle.table_rules.specs.{declared.Refusal.Refusal}
 use Rattle.word_rules.specs.{Number.put, Fields.putAll}
 use Rattle.page_rules.specs.{Page.pageOf, Page.positions, Wake.futexCounter}
+use Rattle.writer_rules.specs.{Writer.writerOf}
 use Rattle.emit_rules.specs.{Emit.refuse, Emit.dropped, Emit.emission}
 use Rattle.promise.specs.{Bytes.Emission, Demand2.FreshBy2}
 
@@ -14,7 +15,7 @@ refusingEmission r s w label payload = refuse s w r
 
 -- always answers DROPPED
 abbrev pub dropping : Emission
-dropping s w label payload = dropped s w
+dropping s w label payload = dropped s w label
 
 -- answers as it should, and writes nothing
 abbrev pub silent : Emission
@@ -36,11 +37,9 @@ abbrev pub inventing : ℕ → ℕ → Emission
 inventing drops overwrites s w label payload = record {
   answer = record {
     outcome = emission s w label payload .answer .outcome;
-    writer = record {
-      last = emission s w label payload .answer .writer .last;
-      dropped = emission s w label payload .answer .writer .dropped + drops;
-      overwritten = emission s w label payload .answer .writer .overwritten + overwrites;
-    };
+    writer =
+        let right = emission s w label payload .answer .writer in
+        writerOf (right .last) (right .dropped + drops) (right .overwritten + overwrites);
   };
   ring = emission s w label payload .ring;
 }

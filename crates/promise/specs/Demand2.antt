@@ -16,7 +16,7 @@ use Rattle.create_rules.specs.{Create.created, Create.afterCreate, declared.Cre
 use Rattle.emit_rules.specs.{declared.Outcome.Outcome}
 use Rattle.emit_rules.specs.declared.Outcome.the-variants.{Done, Wake, Dropped, Refused}
 use Rattle.inspect_rules.specs.{Inspect.inspected, declared.Inspected.the-variants.Whole}
-use Rattle.writer_rules.specs.{declared.Writer.Writer}
+use Rattle.writer_rules.specs.{Writer.zeros}
 use Rattle.run_rules.specs.{Runs.lastOf, Runs.firstOf, Runs.total, Runs.LongestRun}
 use Rattle.history.specs.{Ring.sequenceOf, Ring.Numbered, Ring.Ring, Ring.fresh, Ring.write, Calls.uses, Calls.used, Calls.droppedOf}
 use Rattle.promise.specs.Bytes.{Event, size, taken, encode, State, consumed, Turn, uncalled, Emission, operation}
@@ -97,10 +97,6 @@ abbrev pub Demand2 : Type 0
 Demand2 =
     (cpu capacity : ℕ) (beginning : Ring Event) (s : State) → Holds cpu capacity (s .ring) (s .writer) beginning → (turns : List Turn) →
     Promise cpu capacity beginning (uncalled (s .ring) turns) (made s turns) (after s turns)
-
--- 4.1: the record that goes with a fresh ring
-abbrev pub zeros : Writer
-zeros = record { last = 0; dropped = 0; overwritten = 0 }
 
 -- what creation leaves, and the record that goes with it
 abbrev pub createdState : ℕ → List ℕ → State

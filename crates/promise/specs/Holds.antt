@@ -1,11 +1,11 @@
 -- RULES 4.4: a ring's bytes and its writer's record that stand for a ring without bytes: any such may be the beginning of a history.
 use Prim.Native.Nat.{ℕ, _^_, _<_}
-use mathlib.Core.{Path._≡_, List.List, List.map}
+use mathlib.Core.{Path._≡_, Bool.false, List.List, List.map}
 use lib.{ListN.getD}
 use Rattle.page_rules.specs.{Page.pageOf, Page.opened, declared.Opened.the-variants.Page}
 use Rattle.event_rules.specs.{Run.joined}
 use Rattle.look_rules.specs.{Live.live}
-use Rattle.writer_rules.specs.{declared.Writer.Writer}
+use Rattle.writer_rules.specs.{Writer.wrongWriter, declared.Writer.Writer}
 use Rattle.history.specs.{Ring.Ring, Ring.write, Holding.Holding}
 use Rattle.promise.specs.{Bytes.Event, Bytes.size, Bytes.encode}
 
@@ -22,5 +22,7 @@ pub record Holds (cpu capacity : ℕ) (s : List ℕ) (w : Writer) (ring : Ring E
   pub last-is : w .last ≡ ring .last
   pub dropped-is : w .dropped ≡ ring .dropped
   pub overwritten-is : w .overwritten ≡ ring .overwritten
+  -- 7 doesn't meet the record
+  pub right : wrongWriter w ≡ false
   -- the kept events fit, their sequences rise from above 0 to at most last, last = kept + dropped + overwritten
   pub holding : Holding size capacity ring

@@ -10,7 +10,7 @@ use Rattle.capacity_rules.specs.Capacity.{allowed}
 use Rattle.page_rules.specs.Page.{pageOf}
 use Rattle.page_rules.proofs.Fresh.{blank-generation}
 use Rattle.create_rules.specs.Create.{afterCreate}
-use Rattle.writer_rules.specs.declared.Writer.{Writer}
+use Rattle.writer_rules.specs.Writer.{zeros}
 use Rattle.history.specs.Ring.{Ring, fresh, write}
 use Rattle.history.proofs.Ideal.{given, emit}
 use Rattle.history.specs.Calls.{Call}
@@ -18,11 +18,12 @@ use Rattle.history.proofs.Ideal.{calls}
 use Rattle.history.proofs.Ideal.{after as afterCalls}
 use Rattle.promise.specs.Bytes.{Event, size, Turn}
 use Rattle.promise.specs.Holds.{Holds}
-use Rattle.promise.specs.Demand2.{zeros, createdState}
+use Rattle.promise.specs.Demand2.{createdState}
 use Rattle.promise.proofs.Created.{created-blank, created-holds}
 use Rattle.promise.proofs.Demand2.{same-calls}
 use Rattle.proved_sums.specs.Lives.{turns, lived, answers, Shows}
-use Rattle.proved_sums.proofs.Shown.{numbers, recordOf, shows}
+use Rattle.proved_sums.specs.Sums.{counted}
+use Rattle.proved_sums.proofs.Shown.{numbers, Counting, shows}
 use Rattle.promise.proofs.Generation.{generation-stays}
 
 module _ (turn : ℕ → Turn) (buffer : ℕ → List ℕ) (sized : (capacity : ℕ) → length (buffer capacity) ≡ 8192 + capacity) where
@@ -48,9 +49,10 @@ module _ (turn : ℕ → Turn) (buffer : ℕ → List ℕ) (sized : (capacity : 
     lived-holds lengths = same-calls 3 capacity (turns turn 1 lengths) (createdState 3 (buffer capacity)) fresh begins .1
 
     -- a line of the table, by computing without bytes
-    pub lived-shows : (lengths : List ℕ) {tail far : ℕ} {kept : List ℕ} {writer : Writer} → reached capacity lengths .tail ≡ tail
-        → write size (reached capacity lengths) ≡ far → numbers (reached capacity lengths .kept) ≡ kept → recordOf (reached capacity lengths) ≡ writer
-        → Shows (lived turn buffer capacity lengths) capacity tail far kept writer
+    pub lived-shows : (lengths : List ℕ) {tail far last dropped overwritten : ℕ} {kept : List ℕ} → reached capacity lengths .tail ≡ tail
+        → write size (reached capacity lengths) ≡ far → numbers (reached capacity lengths .kept) ≡ kept
+        → Counting (reached capacity lengths) last dropped overwritten
+        → Shows (lived turn buffer capacity lengths) capacity tail far kept (counted last dropped overwritten)
     lived-shows lengths = shows capacity (lived turn buffer capacity lengths) (reached capacity lengths) (lived-holds lengths)
 
     pub lived-answers : (lengths : List ℕ)

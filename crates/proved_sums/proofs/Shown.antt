@@ -5,7 +5,6 @@ use mathlib.Core.Path.{_≡_, refl, sym, ap, ap₂, _∙_}
 use mathlib.Core.List.{List, [], _∷_, map}
 use lib.ListN.{length-map}
 use Rattle.event_rules.specs.Event.{sequence}
-use Rattle.writer_rules.specs.declared.Writer.{Writer}
 use Rattle.inspect_rules.specs.declared.Inspected.the-variants as answers
 use Rattle.run_rules.specs.Runs.{Rising, lastOf, firstOf, total}
 use Rattle.history.specs.Ring.{sequenceOf, Numbered, Ring, bytes, write}
@@ -15,13 +14,14 @@ use Rattle.promise.specs.Holds.{Holds}
 use Rattle.promise.proofs.Encoding.{encode-sequence}
 use Rattle.promise.proofs.Holds.{holds-range, walked-kept, holds-inspected}
 use Rattle.proved_sums.specs.Lives.{summaryOf, Shows}
+use Rattle.proved_sums.specs.Sums.{counted}
 
 abbrev pub numbers : List (Numbered Event) → List ℕ
 numbers kept = map (λ (x : Numbered Event). x .sequence) kept
 
--- the writer's record of a ring without bytes
-abbrev pub recordOf : Ring Event → Writer
-recordOf ring = record { last = ring .last; dropped = ring .dropped; overwritten = ring .overwritten }
+-- what a ring without bytes counts
+abbrev pub Counting : Ring Event → ℕ → ℕ → ℕ → Type 0
+Counting ring last dropped overwritten = (ring .last ≡ last) × ((ring .dropped ≡ dropped) × (ring .overwritten ≡ overwritten))
 
 oldest-number : (xs : List (Numbered Event)) → firstOf sequenceOf xs ≡ firstOf (λ (n : ℕ). n) (numbers xs)
 oldest-number [] = refl
@@ -43,9 +43,9 @@ sequences cpu narrow low (x ∷ xs) small rise known =
 
 -- so a line of the table is a fact on the ring without bytes
 module _ (capacity : ℕ) (s : State) (ring : Ring Event) (h : Holds 3 capacity (s .ring) (s .writer) ring) where
-  pub shows : {tail far : ℕ} {kept : List ℕ} {writer : Writer} → ring .tail ≡ tail → write size ring ≡ far → numbers (ring .kept) ≡ kept
-      → recordOf ring ≡ writer
-      → Shows s capacity tail far kept writer
+  pub shows : {tail far last dropped overwritten : ℕ} {kept : List ℕ} → ring .tail ≡ tail → write size ring ≡ far → numbers (ring .kept) ≡ kept
+      → Counting ring last dropped overwritten
+      → Shows s capacity tail far kept (counted last dropped overwritten)
   shows at to are counts = record {
     cpu-is = h .named;
     capacity-is = h .sized;
@@ -62,5 +62,6 @@ module _ (capacity : ℕ) (s : State) (ring : Ring Event) (h : Holds 3 capacity 
         ∙ sequences 3 (h .narrow) 0 (ring .kept) (omega (arith, h .holding .fits, holds-range 3 capacity (s .ring) (s .writer) ring h)) (h .holding .rising)
         (omega (arith, h .holding .known, h .holding .spendable))
         ∙ are;
-    writer-is = (λ i. record { last = h .last-is i; dropped = h .dropped-is i; overwritten = h .overwritten-is i }) ∙ counts;
+    counts-are =
+        record { last-is = h .last-is ∙ counts .0; dropped-is = h .dropped-is ∙ counts .1 .0; overwritten-is = h .overwritten-is ∙ counts .1 .1 };
   }

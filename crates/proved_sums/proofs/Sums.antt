@@ -15,6 +15,7 @@ use Rattle.reader_rules.specs.Read.{AfterRead, readOut}
 use Rattle.reader_rules.specs.declared.Reader.{Reader}
 use Rattle.reader_rules.specs.declared.Attachment.the-variants.{Done}
 use Rattle.reader_rules.specs.declared.Reading.the-variants as reading
+use Rattle.writer_rules.specs.Writer.{zeros}
 use Rattle.writer_rules.specs.declared.Writer.{Writer}
 use Rattle.run_rules.specs.Runs.{latest, older}
 use Rattle.history.specs.Ring.{Numbered, Ring, fresh, write}
@@ -23,15 +24,14 @@ use Rattle.history.proofs.Ideal.{calls, after}
 use Rattle.promise.specs.Bytes.{Event, size, Turn}
 use Rattle.promise.specs.Holds.{Holds}
 use Rattle.promise.proofs.Opened.{sound-of}
-use Rattle.promise.specs.Demand2.{zeros}
 use Rattle.promise.specs.Swaps.{swap, swapped}
 use Rattle.promise.proofs.Swaps.{swapped-holds, new-generation, old-generation}
 use Rattle.promise.proofs.Reading.{event-at, reads-event, reads-empty}
 use Rattle.promise.proofs.OneRead.{attaches as attach-held}
 use Rattle.promise.proofs.Encoding.{encode-length}
 use Rattle.proved_sums.specs.Lives.{cut, paid, lived, Shows}
-use Rattle.proved_sums.specs.Sums.{one, two, three, four, five, ten, standing, answering, Reads, numberedBytes, AllSums}
-use Rattle.proved_sums.proofs.Shown.{numbers, recordOf, shows}
+use Rattle.proved_sums.specs.Sums.{one, two, three, four, five, ten, counted, standing, answering, Reads, numberedBytes, AllSums}
+use Rattle.proved_sums.proofs.Shown.{numbers, Counting, shows}
 use Rattle.proved_sums.proofs.Lived.{reached, begins, first-generation, lived-holds, lived-shows, lived-answers, lived-generation}
 use Rattle.proved_sums.proofs.Stretches.{stretches}
 use Rattle.proved_sums.proofs.AnySize.{any-size-ends, any-size-fails}
@@ -98,9 +98,10 @@ module _ (given : ℕ → Turn) (buffer : ℕ → List ℕ) (sized : (capacity :
     generation : pageOf (lived given buffer before lengths .ring) .generation ≡ 1
     generation = lived-generation given buffer sized before old lengths
 
-    swap-shows : {tail far : ℕ} {kept : List ℕ} {writer : Writer} → idealSwap size capacity ring .tail ≡ tail → write size (idealSwap size capacity ring) ≡ far
-        → numbers (idealSwap size capacity ring .kept) ≡ kept → recordOf (idealSwap size capacity ring) ≡ writer
-        → Shows (swapped (lived given buffer before lengths) (buffer capacity)) capacity tail far kept writer
+    swap-shows : {tail far last dropped overwritten : ℕ} {kept : List ℕ} → idealSwap size capacity ring .tail ≡ tail
+        → write size (idealSwap size capacity ring) ≡ far → numbers (idealSwap size capacity ring .kept) ≡ kept
+        → Counting (idealSwap size capacity ring) last dropped overwritten
+        → Shows (swapped (lived given buffer before lengths) (buffer capacity)) capacity tail far kept (counted last dropped overwritten)
     swap-shows =
         shows capacity (swapped (lived given buffer before lengths) (buffer capacity)) (idealSwap size capacity ring)
         (swapped-holds 3 before (lived given buffer before lengths) ring (lived-holds given buffer sized before old lengths)
@@ -118,22 +119,22 @@ module _ (given : ℕ → Turn) (buffer : ℕ → List ℕ) (sized : (capacity :
 pub sums : AllSums
 unfolding allowed powerAmong emit latest older after calls cut
 sums given buffer sized = record {
-  line1 = lived-shows given buffer sized 256 refl one refl refl refl refl;
-  line2 = lived-shows given buffer sized 256 refl two refl refl refl refl;
-  line3 = lived-shows given buffer sized 256 refl three refl refl refl refl;
-  line4 = (lived-shows given buffer sized 256 refl four refl refl refl refl, wraps given buffer sized .0, wraps given buffer sized .1);
-  line5 = (lived-answers given buffer sized 256 refl five ∙ refl, lived-shows given buffer sized 256 refl five refl refl refl refl);
+  line1 = lived-shows given buffer sized 256 refl one refl refl refl (refl, (refl, refl));
+  line2 = lived-shows given buffer sized 256 refl two refl refl refl (refl, (refl, refl));
+  line3 = lived-shows given buffer sized 256 refl three refl refl refl (refl, (refl, refl));
+  line4 = (lived-shows given buffer sized 256 refl four refl refl refl (refl, (refl, refl)), wraps given buffer sized .0, wraps given buffer sized .1);
+  line5 = (lived-answers given buffer sized 256 refl five ∙ refl, lived-shows given buffer sized 256 refl five refl refl refl (refl, (refl, refl)));
   line6 = (attaches given buffer sized, reads given buffer sized);
   line7 = (
-    swap-shows given buffer sized 256 512 refl refl five refl refl refl refl,
+    swap-shows given buffer sized 256 512 refl refl five refl refl refl (refl, (refl, refl)),
     second-generation given buffer sized 256 512 refl refl five .0,
     second-generation given buffer sized 256 512 refl refl five .1,
   );
-  line8 = swap-shows given buffer sized 512 256 refl refl (0 ∷ 224 ∷ []) refl refl refl refl;
-  line9 = swap-shows given buffer sized 1024 256 refl refl (480 ∷ []) refl refl refl refl;
+  line8 = swap-shows given buffer sized 512 256 refl refl (0 ∷ 224 ∷ []) refl refl refl (refl, (refl, refl));
+  line9 = swap-shows given buffer sized 1024 256 refl refl (480 ∷ []) refl refl refl (refl, (refl, refl));
   line10 = (
-    lived-shows given buffer sized 256 refl ten refl refl refl refl,
-    lived-shows given buffer sized 512 refl ten refl refl refl refl,
+    lived-shows given buffer sized 256 refl ten refl refl refl (refl, (refl, refl)),
+    lived-shows given buffer sized 512 refl ten refl refl refl (refl, (refl, refl)),
     any-size-ends,
     any-size-fails given buffer sized,
   );

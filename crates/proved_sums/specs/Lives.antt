@@ -48,7 +48,7 @@ abbrev pub summaryOf : List ℕ → Summary
 summaryOf sequences = record { count = length sequences; first = firstOf (λ (n : ℕ). n) sequences; last = lastOf (λ (n : ℕ). n) 0 sequences }
 
 -- by the ring's bytes and the writer's record; cpu 3 in all sums
-pub record Shows (s : State) (capacity tail write : ℕ) (kept : List ℕ) (writer : Writer) : Type 0 where
+pub record Shows (s : State) (capacity tail write : ℕ) (kept : List ℕ) (counts : Writer → Type 0) : Type 0 where
   pub cpu-is : pageOf (s .ring) .«cpu_id» ≡ 3
   pub capacity-is : pageOf (s .ring) .capacity ≡ capacity
   pub tail-is : pageOf (s .ring) .«tail_pos» ≡ tail
@@ -56,4 +56,5 @@ pub record Shows (s : State) (capacity tail write : ℕ) (kept : List ℕ) (writ
   pub inspection : inspected (s .ring) ≡ Whole (summaryOf kept)
   -- the sequences of the events that inspection passes
   pub kept-are : map sequence (walked (s .ring) (pageOf (s .ring))) ≡ kept
-  pub writer-is : s .writer ≡ writer
+  -- what the record counts
+  pub counts-are : counts (s .writer)

@@ -3,7 +3,7 @@ use Prim.Native.Nat.{ℕ, _+_, _≤_}
 use mathlib.Core.{Path._≡_, List.List, List.[], List._∷_, List._++_}
 use lib.{ListN.length, ListN.take, ListN.drop}
 use Rattle.page_rules.specs.{Page.pageOf}
-use Rattle.writer_rules.specs.{declared.Writer.Writer}
+use Rattle.writer_rules.specs.{Writer.Numbers, declared.Writer.Writer}
 use Rattle.create_rules.specs.{Create.afterCreate}
 use Rattle.reader_rules.specs.{Reader.missed, Attach.attached, Read.AfterRead, Read.readOut, declared.Reader.Reader, declared.Reading.Reading, declared.Attachment.the-variants.Done as attachmentDone}
 use Rattle.reader_rules.specs.declared.Reading.the-variants.{Empty as readingEmpty, Event as readingEvent}
@@ -32,8 +32,8 @@ five = four ++ (97 ∷ [])
 abbrev pub ten : List ℕ
 ten = 0 ∷ 0 ∷ 224 ∷ 224 ∷ []
 
-abbrev pub counted : ℕ → ℕ → ℕ → Writer
-counted last dropped overwritten = record { last = last; dropped = dropped; overwritten = overwritten }
+abbrev pub counted : ℕ → ℕ → ℕ → Writer → Type 0
+counted last dropped overwritten w = Numbers w last dropped overwritten
 
 abbrev pub standing : ℕ → ℕ → ℕ → Reader
 standing place last handed = record { «read_pos» = place; last = last; handed = handed; generation = 1 }

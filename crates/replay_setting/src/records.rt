@@ -9,7 +9,7 @@ use script::Parsed;
 use script::field::field;
 use script::number::number;
 use script::number::number_to;
-use writer_rules::Writer;
+use writer::writer_of;
 
 pub fn set_writer(line: &[u8], state: State) -> State {
     let w = number_to(field(line, 1), 3);
@@ -26,15 +26,7 @@ pub fn set_writer(line: &[u8], state: State) -> State {
         return unknown(state);
     }
     words(b"ok\n");
-    with_writer(
-        state,
-        w,
-        Writer {
-            last: last,
-            dropped: dropped,
-            overwritten: overwritten,
-        },
-    )
+    with_writer(state, w, writer_of(last, dropped, overwritten))
 }
 
 pub fn set_reader(line: &[u8], state: State) -> State {

@@ -1,6 +1,7 @@
 // What a script plays on beside the bytes of its buffers.
 use crate::say::words;
 use reader_rules::Reader;
+use writer::zeros;
 use writer_rules::Writer;
 ghost use Prim.Native.Nat.{_≤_};
 
@@ -12,11 +13,7 @@ pub struct State {
 }
 
 pub fn fresh() -> State {
-    let writer = Writer {
-        last: 0,
-        dropped: 0,
-        overwritten: 0,
-    };
+    let writer = zeros();
     let reader = Reader {
         read_pos: 0,
         last: 0,

@@ -56,7 +56,7 @@ fn emit_payload(line: &[u8], state: State, ring: &mut [u8], payload: &[u8]) -> S
         event_type: event_type as u32,
         origin_class: origin_class as u8,
     };
-    let emitted = emit::emit::emit(ring, state.writers[w], label, payload);
+    let emitted = emit::emit(ring, state.writers[w], label, payload);
     let outcome = emitted.outcome;
     emission(outcome);
     say::writer(emitted.writer);
@@ -95,7 +95,7 @@ pub fn swap(line: &[u8], state: State, old: &mut [u8], new: &mut [u8]) -> State 
     if w > 3 {
         return unknown(state);
     }
-    let swapped = swap::swap::swap(old, new, state.writers[w]);
+    let swapped = swap::swap(old, new, state.writers[w]);
     let outcome = swapped.outcome;
     exchange(outcome);
     say::writer(swapped.writer);

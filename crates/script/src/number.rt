@@ -16,7 +16,7 @@ fn digit_on(n: u64, byte: u8) -> Parsed
     }
     let digit = (byte - 48) as u64;
     // n * 10 + digit above 2^64 - 1, with no sum that could pass it
-    if n > (18446744073709551615 - digit) / 10 {
+    if n > (u64::MAX - digit) / 10 {
         return Parsed::Bad;
     }
     Parsed::Is(n * 10 + digit)

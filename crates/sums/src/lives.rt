@@ -1,27 +1,20 @@
 // The lives of rings that lines 1 to 10 tell of.
 use crate::print;
 use create::create;
-use emit::emit::emit;
+use emit::emit;
 use emit_rules::Emitted;
 use emit_rules::Label;
 use reader::attach::attach;
 use reader::read::read;
 use reader_rules::Reader;
 use reader_rules::Reading;
-use swap::swap::swap;
+use swap::swap;
 use word::number::get32;
 use word::number::get64;
+use writer::zeros;
 use writer_rules::Writer;
 ghost use Prim.Native.Nat.{_≤_};
 ghost use lib.ListN.{length};
-
-pub fn fresh_writer() -> Writer {
-    Writer {
-        last: 0,
-        dropped: 0,
-        overwritten: 0,
-    }
-}
 
 fn fresh_reader() -> Reader {
     Reader {
@@ -36,13 +29,13 @@ fn fresh_reader() -> Reader {
 pub fn emitted(ring: &mut [u8], writer: Writer, size: usize) -> Emitted
     requires { ⌜ size ≤ 480 ⌝ }
 {
-    let zeros = [0u8; 480];
+    let payload = [0u8; 480];
     let label = Label {
         timestamp: 0,
         event_type: 1,
         origin_class: 0,
     };
-    emit(ring, writer, label, &zeros[0..size])
+    emit(ring, writer, label, &payload[0..size])
 }
 
 // One more event, shown under a line of the sums.
@@ -107,7 +100,7 @@ pub fn one_ring() {
     let mut ring = [0u8; 8448];
     create(&mut ring, 3);
     let reader = attach(&ring, fresh_reader()).reader;
-    let mut writer = fresh_writer();
+    let mut writer = zeros();
     writer = shown(1, &mut ring, writer, 32);
     writer = shown(1, &mut ring, writer, 32);
     writer = shown(1, &mut ring, writer, 32);
@@ -128,7 +121,7 @@ pub fn one_ring() {
 pub fn larger_first() {
     let mut ring = [0u8; 8704];
     create(&mut ring, 3);
-    let first = emitted(&mut ring, fresh_writer(), 0).writer;
+    let first = emitted(&mut ring, zeros(), 0).writer;
     let second = emitted(&mut ring, first, 224).writer;
     let mut smaller = [0u8; 8448];
     let answer = swap(&mut ring, &mut smaller, second);
@@ -141,7 +134,7 @@ pub fn larger_first() {
 pub fn nothing_fits() {
     let mut ring = [0u8; 9216];
     create(&mut ring, 3);
-    let only = emitted(&mut ring, fresh_writer(), 480).writer;
+    let only = emitted(&mut ring, zeros(), 480).writer;
     let mut smaller = [0u8; 8448];
     let answer = swap(&mut ring, &mut smaller, only);
     print::word(b"9 new");
@@ -159,7 +152,7 @@ fn two_alike(ring: &mut [u8], writer: Writer, size: usize) -> Writer
 // Line 10: sizes 32, 32, 256, 256 into a ring.
 fn four_events(ring: &mut [u8]) {
     create(ring, 3);
-    let small = two_alike(ring, fresh_writer(), 0);
+    let small = two_alike(ring, zeros(), 0);
     let large = two_alike(ring, small, 224);
     print::word(b"10");
     print::ring(ring);

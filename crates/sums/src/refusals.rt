@@ -1,10 +1,10 @@
 // Lines 11 and 12.
 use crate::lives::emitted;
-use crate::lives::fresh_writer;
 use crate::print;
 use create::create;
 use word::number::get32;
 use word::number::put32;
+use writer::zeros;
 
 // Line 11: futex_counter 4,294,967,295 with need_wake 1.
 pub fn counter_at_its_end() {
@@ -12,7 +12,7 @@ pub fn counter_at_its_end() {
     create(&mut ring, 3);
     put32(&mut ring, 128, 4294967295);
     ring[4096] = 1;
-    let answer = emitted(&mut ring, fresh_writer(), 0);
+    let answer = emitted(&mut ring, zeros(), 0);
     print::word(b"11");
     let outcome = answer.outcome;
     print::outcome(outcome);

@@ -17,7 +17,7 @@ use Rattle.event_rules.specs.Event.{faults, wellFormed, headerOf, eventBytes}
 use Rattle.event_rules.specs.Run.{joined, passable, runUpTo, soundRun}
 use Rattle.event_rules.specs.Walk.{walkUpTo, walkFrom}
 use Rattle.look_rules.specs.Live.{rest, live}
-use Rattle.writer_rules.specs.Writer.{wrongWriter}
+use Rattle.writer_rules.specs.Writer.{oneAccepted, someDiscarded, outstanding, wrongWriter}
 use Rattle.create_rules.specs.Create.{wrongSize}
 use Rattle.create_rules.proofs.Laws.{size-passed}
 use Rattle.emit_rules.specs.Emit.{writerRows, tooLarge, tooFar, disagrees, eventOf, stored, acceptance, placed, emittedOn, emission}
@@ -59,11 +59,11 @@ reads =
 
 emissions : WorkedEmissions
 unfolding reads emission emittedOn writerRows wrongWriter tooLarge tooFar placed walkFrom walkUpTo
-    eventOf eventBytes headerOf disagrees acceptance stored storeAt wakes raised notified
+    eventOf eventBytes headerOf disagrees acceptance oneAccepted stored storeAt wakes raised notified
 emissions = record { need-wake-0 = refl; need-wake-1 = refl; need-wake-2 = refl; damaged-second = refl }
 
 swaps : WorkedSwaps
-unfolding emissions exchange exchangeOn swapRows lastGeneration damaged countDiffers carriedOver older latest newRing retired
+unfolding emissions exchange exchangeOn swapRows lastGeneration damaged countDiffers outstanding carriedOver someDiscarded older latest newRing retired
 swaps = record { unwatched = refl; watched = refl }
 
 pub worked : Worked

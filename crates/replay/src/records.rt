@@ -4,7 +4,7 @@ use crate::state::State;
 use crate::state::unknown;
 use crate::state::with_reader;
 use crate::state::with_writer;
-use reader_rules::Reader;
+use reader::record::reader_with;
 use script::Parsed;
 use script::field::field;
 use script::number::number;
@@ -55,14 +55,5 @@ pub fn set_reader(line: &[u8], state: State) -> State {
         return unknown(state);
     }
     words(b"ok\n");
-    with_reader(
-        state,
-        r,
-        Reader {
-            read_pos: read_pos,
-            last: last,
-            handed: handed,
-            generation: generation,
-        },
-    )
+    with_reader(state, r, reader_with(read_pos, last, handed, generation))
 }

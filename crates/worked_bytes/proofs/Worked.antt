@@ -22,7 +22,7 @@ use Rattle.create_rules.specs.Create.{wrongSize}
 use Rattle.create_rules.proofs.Laws.{size-passed}
 use Rattle.emit_rules.specs.Emit.{writerRows, tooLarge, tooFar, disagrees, eventOf, stored, acceptance, placed, emittedOn, emission}
 use Rattle.inspect_rules.specs.Inspect.{walked, surveyed, damaged, inspectedOn, inspected}
-use Rattle.reader_rules.specs.Reader.{miscounted, ahead, wrongReader}
+use Rattle.reader_rules.specs.Reader.{miscounted, ahead, wrongReader, atTail, movedTo, handedOne}
 use Rattle.reader_rules.specs.Attach.{attached}
 use Rattle.reader_rules.specs.Read.{ending, eventRows, readAt, readOpened, readOut}
 use Rattle.swap_rules.specs.Swap.{lastGeneration, countDiffers, swapRows, newRing}
@@ -46,7 +46,7 @@ pages =
 
 reads : WorkedReads
 unfolding pages inspected inspectedOn damaged surveyed walked soundRun runUpTo passable wellFormed faults live rest bytesAt joined
-    attached readOut readOpened wrongReader miscounted ahead ending readAt eventRows
+    atTail movedTo handedOne attached readOut readOpened wrongReader miscounted ahead ending readAt eventRows
 reads =
     record {
       inspects-none = refl;

@@ -9,7 +9,7 @@ use Rattle.word_rules.specs.Number.{number, byteOf, put}
 use Rattle.word_rules.specs.Fields.{putAll}
 use Rattle.capacity_rules.specs.Capacity.{powerAmong, allowed}
 use Rattle.page_rules.specs.Page.{pageOf, tooShort, differs, wrongMark, wrongVersion, filled, spoiled, wrongLayout}
-use Rattle.page_rules.specs.Page.{wrongLength, wrongPosition, pageRows, opened}
+use Rattle.page_rules.specs.Page.{wrongLength, wrongPosition, pageRows, onRing, opened}
 use Rattle.page_rules.specs.Wake.{wakes, raised, notified}
 use Rattle.page_rules.specs.Fresh.{blank}
 use Rattle.region_rules.specs.Region.{bytesAt, storeAt}
@@ -30,7 +30,7 @@ use Rattle.swap_rules.specs.Swap.{retired, carriedOver, exchangeOn, exchange}
 use Rattle.worked_bytes.specs.Worked.{pageBytes, laid, headerBytes, WorkedPages, WorkedEmissions, WorkedReads, WorkedSwaps, Worked}
 
 pages : WorkedPages
-unfolding opened pageRows pageOf tooShort differs wrongMark wrongVersion wrongLayout filled spoiled wrongLength wrongPosition
+unfolding onRing opened pageRows pageOf tooShort differs wrongMark wrongVersion wrongLayout filled spoiled wrongLength wrongPosition
     first any number allowed powerAmong wrongSize blank putAll put byteOf pageBytes laid headerBytes
 pages =
     record {

@@ -1,4 +1,5 @@
 // The reader's record in 32 bytes: read_pos, last, handed, generation.
+use reader::record::reader_with;
 use reader_rules::Reader;
 use word::number::get64;
 use word::number::put64;
@@ -11,12 +12,12 @@ pub fn reader_at(bytes: &[u8]) -> Reader
     requires { ⌜ length (now bytes) ≡ 32 ⌝ }
     ensures { λ r. ⌜ r ≡ readerOf (now (bytes .entry)) ⌝ }
 {
-    Reader {
-        read_pos: get64(bytes, 0),
-        last: get64(bytes, 8),
-        handed: get64(bytes, 16),
-        generation: get64(bytes, 24),
-    }
+    reader_with(
+        get64(bytes, 0),
+        get64(bytes, 8),
+        get64(bytes, 16),
+        get64(bytes, 24),
+    )
 }
 
 pub fn keep_reader(bytes: &mut [u8], reader: Reader)

@@ -7,6 +7,7 @@ use mathlib.Core.List.{List, [], _∷_, map}
 use lib.ListN.{length}
 use Rattle.page_rules.specs.Page.{pageOf}
 use Rattle.writer_rules.specs.declared.Writer.{Writer}
+use Rattle.reader_rules.specs.Reader.{readerWith}
 use Rattle.reader_rules.specs.Read.{readOut}
 use Rattle.reader_rules.specs.declared.Reader.{Reader}
 use Rattle.reader_rules.specs.declared.Attached.{Attached}
@@ -59,17 +60,10 @@ pub newly-attached : NewlyAttached
 newly-attached cpu capacity s w ring h any =
     let here = attaches cpu capacity s w ring h any in
     let all : unread size ring (attachAt ring) ≡ ring .kept = from-lapped size (ring .tail) (ring .tail) (ring .kept) (le-refl (ring .tail)) in
-    let end : recordOf (pageOf s .generation) (finished size ring (attachAt ring) (ring .kept)) ≡ record {
-      «read_pos» = pageOf s .«write_pos»;
-      last = lastOf sequenceOf 0 (ring .kept);
-      handed = length (ring .kept);
-      generation = pageOf s .generation;
-    } = λ i. record {
-      «read_pos» = sym (h .write-is) i;
-      last = lastOf sequenceOf 0 (ring .kept);
-      handed = zero-add (length (ring .kept)) i;
-      generation = pageOf s .generation;
-    } in (
+    let last = lastOf sequenceOf 0 (ring .kept) in
+    let end : recordOf (pageOf s .generation) (finished size ring (attachAt ring) (ring .kept))
+    ≡ readerWith (pageOf s .«write_pos») last (length (ring .kept)) (pageOf s .generation) =
+    λ i. readerWith (sym (h .write-is) i) last (zero-add (length (ring .kept)) i) (pageOf s .generation) in (
       ap (λ (a : Attached). a .answer) here,
       subst₂ (λ (r e : Reader). Empties readOut s r (map (encode cpu) (ring .kept)) e) (sym (ap (λ (a : Attached). a .reader) here)) end
           (empties cpu capacity s w ring h (ring .kept) (attachAt ring) (attach-follows size capacity ring (h .holding)) all),

@@ -4,6 +4,7 @@ use native.Mathlib.Omega.{arith}
 use mathlib.Core.Path.{_≡_, refl, sym, ap, _∙_, subst}
 use mathlib.Core.List.{List, [], _∷_, map}
 use lib.ListN.{length, replicate, length-replicate}
+use Rattle.reader_rules.specs.Reader.{readerWith}
 use Rattle.reader_rules.specs.declared.Reader.{Reader}
 use Rattle.run_rules.specs.Runs.{latest, older}
 use Rattle.history.specs.Ring.{Numbered, Ring, fresh}
@@ -102,4 +103,4 @@ shut-out3 = record {
     long = length-replicate {A = ℕ} 8448 0
 
     any : Reader
-    any = record { «read_pos» = 0; last = 0; handed = 0; generation = 0 }
+    any = readerWith 0 0 0 0

@@ -5,7 +5,7 @@ use lib.{ListN.length, ListN.drop}
 use Rattle.page_rules.specs.{Page.pageOf}
 use Rattle.create_rules.specs.{Create.afterCreate}
 use Rattle.writer_rules.specs.{declared.Writer.Writer}
-use Rattle.reader_rules.specs.{Attach.attached, Read.AfterRead, Read.readOut, declared.Reader.Reader, declared.Attached.Attached, declared.Attachment.the-variants.Done as attachmentDone}
+use Rattle.reader_rules.specs.{Reader.readerWith, Attach.attached, Read.AfterRead, Read.readOut, declared.Reader.Reader, declared.Attached.Attached, declared.Attachment.the-variants.Done as attachmentDone}
 use Rattle.reader_rules.specs.declared.Reading.the-variants.{Empty as readingEmpty, Event as readingEvent}
 use Rattle.run_rules.specs.{Runs.lastOf, Runs.LongestRun}
 use Rattle.history.specs.{Ring.sequenceOf, Ring.Numbered, Ring.Ring}
@@ -55,12 +55,8 @@ abbrev pub NewlyAttachedBy : Attach → Type 0
 NewlyAttachedBy attach =
     (cpu capacity : ℕ) (s : List ℕ) (w : Writer) (ring : Ring Event) → Holds cpu capacity s w ring → (any : Reader) →
     (attach s any .answer ≡ attachmentDone)
-    × Empties readOut s (attach s any .reader) (map (encode cpu) (ring .kept)) (record {
-      «read_pos» = pageOf s .«write_pos»;
-      last = lastOf sequenceOf 0 (ring .kept);
-      handed = length (ring .kept);
-      generation = pageOf s .generation;
-    })
+    × Empties readOut s (attach s any .reader) (map (encode cpu) (ring .kept))
+    (readerWith (pageOf s .«write_pos») (lastOf sequenceOf 0 (ring .kept)) (length (ring .kept)) (pageOf s .generation))
 
 abbrev pub NewlyAttached : Type 0
 NewlyAttached = NewlyAttachedBy attached

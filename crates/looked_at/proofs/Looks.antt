@@ -5,7 +5,7 @@ use mathlib.Core.Path.{_≡_, ap}
 use mathlib.Core.Logic.{inl, inr}
 use mathlib.Core.List.{List}
 use lib.ListN.{getD}
-use Rattle.page_rules.specs.Page.{pageOf, pageRows}
+use Rattle.page_rules.specs.Page.{pageOf, pageRows, onRing}
 use Rattle.page_rules.specs.declared.Page.{Page}
 use Rattle.page_rules.proofs.Same as pages
 use Rattle.look_rules.specs.Live.{live}
@@ -43,17 +43,17 @@ module _ {s t : List ℕ} (g : Agree s t) where
   surveyed-same p = rw (walked-same p)
 
   pub inspected-same : inspected t ≡ inspected s
-  unfolding inspected inspectedOn damaged
+  unfolding onRing inspected inspectedOn damaged
   inspected-same = rw (rows-same, page-same, surveyed-same (pageOf s))
 
   pub attached-same : (reader : Reader) → attached t reader ≡ attached s reader
-  unfolding attached
+  unfolding onRing attached
   attached-same reader = rw (rows-same, page-same)
 
   pub read-same : (reader : Reader) (out : List ℕ) → readOut t reader out ≡ readOut s reader out
-  unfolding readOut readOpened readAt
+  unfolding onRing readOut readOpened readAt
   read-same reader out = rw (rows-same, page-same, looks.rest-same s t data-same (pageOf s))
 
   pub followed-same : (reader : Reader) → followed t reader ≡ followed s reader
-  unfolding followed followedOn followRows onward damaged
+  unfolding onRing followed followedOn followRows onward damaged
   followed-same reader = rw (rows-same, page-same, surveyed-same (pageOf s), walked-same (pageOf s))

@@ -7,12 +7,14 @@ use lib.ListN.{length, drop}
 use Rattle.page_rules.specs.Page.{pageOf}
 use Rattle.page_rules.specs.declared.Page.{Page}
 use Rattle.writer_rules.specs.declared.Writer.{Writer}
+use Rattle.reader_rules.specs.Reader.{readerWith}
 use Rattle.reader_rules.specs.Attach.{attached}
 use Rattle.reader_rules.specs.Read.{readOut, readingPlace}
 use Rattle.reader_rules.specs.declared.Reader.{Reader}
 use Rattle.reader_rules.specs.declared.Attachment.the-variants as attachment
 use Rattle.reader_rules.specs.declared.Reading.the-variants as reading
 use Rattle.reader_rules.proofs.Attaching.{attach-done}
+use Rattle.reader_rules.proofs.Life.{says-with, attached-says, moved-says, handed-says}
 use Rattle.run_rules.specs.Runs.{Rising, lastOf, total}
 use Rattle.history.specs.Ring.{sequenceOf, Numbered, Ring, bytes, write}
 use Rattle.history.proofs.IdealReading.{Place, attachAt, Following, unread, placeIn}
@@ -27,13 +29,14 @@ use Rattle.promise.proofs.Reading.{reads-empty, reads-event}
 
 -- the record of a reader of the ring without bytes, with a generation
 abbrev pub recordOf : ℕ → Place → Reader
-recordOf generation r = record { «read_pos» = r .read-pos; last = r .last; handed = r .handed; generation = generation }
+recordOf generation r = readerWith (r .read-pos) (r .last) (r .handed) generation
 
 pub attaches : (cpu capacity : ℕ) (s : List ℕ) (w : Writer) (ring : Ring Event) → Holds cpu capacity s w ring → (any : Reader)
     → attached s any ≡ record { answer = attachment.Done; reader = recordOf (pageOf s .generation) (attachAt ring) }
 attaches cpu capacity s w ring h any =
     attach-done s any (pageOf s) (sound-of h)
-    ∙ (λ i. record { answer = attachment.Done; reader = record { «read_pos» = h .tail-is i; last = 0; handed = 0; generation = pageOf s .generation } })
+    ∙ ap (λ (r : Reader). record { answer = attachment.Done; reader = r })
+    (says-with (attached-says (pageOf s)) ∙ ap (λ (tail : ℕ). readerWith tail 0 0 (pageOf s .generation)) (h .tail-is))
 
 module _ (cpu capacity : ℕ) (s : List ℕ) (w : Writer) (ring : Ring Event) (h : Holds cpu capacity s w ring)
     (r : Place) (f : Following size ring r) (generation : ℕ) (out : List ℕ) where
@@ -55,13 +58,8 @@ module _ (cpu capacity : ℕ) (s : List ℕ) (w : Writer) (ring : Ring Event) (h
       let last : readingPlace p reader ≡ write size ring = omega (arith, there, f .placed, ap (total (bytes size)) e) in
       let none : r .handed ≡ r .handed + 0 = omega arith in
       reads-empty cpu capacity s w ring h reader out last behind (f .handed) same
-      ∙ (λ i. record {
-        answered = record {
-          answer = reading.Empty;
-          reader = record { «read_pos» = write size ring; last = r .last; handed = none i; generation = generation };
-        };
-        out = out;
-      })
+      ∙ ap (λ (q : Reader). record { answered = record { answer = reading.Empty; reader = q }; out = out })
+      (says-with (moved-says (write size ring) reader) ∙ ap (λ (n : ℕ). readerWith (write size ring) (r .last) n generation) none)
 
   module _ (x : Numbered Event) (others : List (Numbered Event)) (e : unread size ring r ≡ x ∷ others) where
     rising : Rising sequenceOf (r .last) (x ∷ others)
@@ -85,7 +83,7 @@ module _ (cpu capacity : ℕ) (s : List ℕ) (w : Writer) (ring : Ring Event) (h
         ∙ (λ i. record {
           answered = record {
             answer = reading.Event (long i);
-            reader = record { «read_pos» = next i; last = x .sequence; handed = r .handed + 1; generation = generation };
+            reader = says-with (handed-says (next i) (x .sequence) reader) i;
           };
           out = encode cpu x ++ drop (long i) out;
         })

@@ -172,7 +172,7 @@ module _ (s : List ℕ) (p : Page) (is : opened s ≡ opens.Page p) (at : ℕ) w
       stopped attaches.Refused attaches.Done (followRows s p reader) (refusal.Damaged at) (λ r q. cc)
       (λ q. differ (cc))
       (sym (first-map (λ (a : Attached). a .answer) (notAttached reader) _ (followRows s p reader))
-      ∙ sym (ap (λ (a : Attached). a .answer) (followCases.page-opened s reader p is)) ∙ e) in
+      ∙ sym (ap (λ (a : Attached). a .answer) (followCases.on-sound s reader p h)) ∙ e) in
       follow-row reader (row .0) (row .1)
 
   -- ---- emission
@@ -279,7 +279,7 @@ module _ (s : List ℕ) (p : Page) (is : opened s ≡ opens.Page p) (at : ℕ) w
   reads-there reader out e =
       by (wrongReader p reader) (eqb (reader .«read_pos») (p .«write_pos»)) (eqb place (p .«write_pos»)) (eqb (p .generation) (reader .generation))
       (passable (p .«cpu_id») (reader .last) bs) (ltb (length out) (eventSize bs)) refl
-      (sym (ap (λ (a : AfterRead). a .answered .answer) (readCases.read-opened s reader out p is)) ∙ e)
+      (sym (ap (λ (a : AfterRead). a .answered .answer) (readCases.on-sound s reader out p h)) ∙ e)
     where
       place : ℕ
       place = readingPlace p reader

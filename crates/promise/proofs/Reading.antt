@@ -16,7 +16,7 @@ use Rattle.event_rules.proofs.Front.{size-front, sequence-front, well-front, ta
 use Rattle.look_rules.specs.Live.{rest, live}
 use Rattle.look_rules.proofs.Laws.{rest-drop, rest-take}
 use Rattle.writer_rules.specs.declared.Writer.{Writer}
-use Rattle.reader_rules.specs.Reader.{movedTo}
+use Rattle.reader_rules.specs.Reader.{movedTo, handedOne}
 use Rattle.reader_rules.specs.Read.{readingPlace, handedOut, readOut}
 use Rattle.reader_rules.specs.declared.Reader.{Reader}
 use Rattle.reader_rules.specs.declared.Reading.the-variants as reading
@@ -93,7 +93,7 @@ module _ (cpu capacity : ℕ) (s : List ℕ) (w : Writer) (ring : Ring Event) (h
           ≡ record {
             answered = record {
               answer = reading.Event (size (x .event));
-              reader = record { «read_pos» = at + size (x .event); last = x .sequence; handed = reader .handed + 1; generation = reader .generation };
+              reader = handedOne (at + size (x .event)) (x .sequence) reader;
             };
             out = encode cpu x ++ drop (size (x .event)) out;
           }
@@ -114,7 +114,7 @@ module _ (cpu capacity : ℕ) (s : List ℕ) (w : Writer) (ring : Ring Event) (h
           ∙ (λ i. record {
             answered = record {
               answer = reading.Event (size-is i);
-              reader = record { «read_pos» = at + size-is i; last = sequence-is i; handed = reader .handed + 1; generation = reader .generation };
+              reader = handedOne (at + size-is i) (sequence-is i) reader;
             };
             out = front-is i ++ drop (size-is i) out;
           })

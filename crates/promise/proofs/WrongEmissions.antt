@@ -5,7 +5,7 @@ use lib.{ListN.length, ListN.set, Dec.eqb}
 use Rattle.table_rules.specs.{declared.Refusal.Refusal}
 use Rattle.word_rules.specs.{Number.put, Fields.putAll}
 use Rattle.page_rules.specs.{Page.pageOf, Page.positions, Wake.futexCounter}
-use Rattle.writer_rules.specs.{Writer.writerOf}
+use Rattle.writer_rules.specs.{Writer.writerWith}
 use Rattle.emit_rules.specs.{Emit.refuse, Emit.dropped, Emit.emission}
 use Rattle.promise.specs.{Bytes.Emission, Demand2.FreshBy2}
 
@@ -39,7 +39,7 @@ inventing drops overwrites s w label payload = record {
     outcome = emission s w label payload .answer .outcome;
     writer =
         let right = emission s w label payload .answer .writer in
-        writerOf (right .last) (right .dropped + drops) (right .overwritten + overwrites);
+        writerWith (right .last) (right .dropped + drops) (right .overwritten + overwrites);
   };
   ring = emission s w label payload .ring;
 }

@@ -7,6 +7,7 @@ use mathlib.Core.Bool.{true}
 use mathlib.Core.List.{List, [], _∷_, map}
 use lib.ListN.{length}
 use Rattle.capacity_rules.specs.Capacity.{allowed, powerAmong}
+use Rattle.reader_rules.specs.Reader.{readerWith}
 use Rattle.reader_rules.specs.Read.{readOut}
 use Rattle.reader_rules.specs.declared.Reader.{Reader}
 use Rattle.run_rules.specs.Runs.{EndPart, total, latest, older}
@@ -81,7 +82,7 @@ module _ (given : ℕ → Turn) (buffer : ℕ → List ℕ) (sized : (capacity :
   ts = turns given 1 ten
 
   abbrev any : Reader
-  any = record { «read_pos» = 0; last = 0; handed = 0; generation = 0 }
+  any = readerWith 0 0 0 0
 
   abbrev begun : ℕ → Watched
   begun capacity = started 3 (buffer capacity) any

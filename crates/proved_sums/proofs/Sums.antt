@@ -1,7 +1,7 @@
 -- The table: each line is computed on the ring without bytes, and the promises carry it to the bytes.
 use Prim.Native.Nat.{ℕ, _+_, _≤_}
 use native.Mathlib.Omega.{arith}
-use mathlib.Core.Path.{_≡_, refl, ap, _∙_}
+use mathlib.Core.Path.{_≡_, refl, ap, ap₂, _∙_}
 use mathlib.Core.Bool.{true}
 use mathlib.Core.List.{List, [], _∷_, _++_}
 use lib.ListN.{length, take, drop, length-append}
@@ -9,12 +9,13 @@ use lib.Seq.{drop-at}
 use Rattle.capacity_rules.specs.Capacity.{allowed, powerAmong}
 use Rattle.page_rules.specs.Page.{pageOf}
 use Rattle.create_rules.specs.Create.{afterCreate}
-use Rattle.reader_rules.specs.Reader.{missed}
+use Rattle.reader_rules.specs.Reader.{missed, readerWith}
 use Rattle.reader_rules.specs.Attach.{attached}
 use Rattle.reader_rules.specs.Read.{AfterRead, readOut}
 use Rattle.reader_rules.specs.declared.Reader.{Reader}
 use Rattle.reader_rules.specs.declared.Attachment.the-variants.{Done}
 use Rattle.reader_rules.specs.declared.Reading.the-variants as reading
+use Rattle.reader_rules.proofs.Life.{says-with, moved-nowhere, handed-says}
 use Rattle.writer_rules.specs.Writer.{zeros}
 use Rattle.writer_rules.specs.declared.Writer.{Writer}
 use Rattle.run_rules.specs.Runs.{latest, older}
@@ -58,8 +59,7 @@ module _ (given : ℕ → Turn) (buffer : ℕ → List ℕ) (sized : (capacity :
   unfolding allowed powerAmong
   attaches old =
       attach-held 3 256 (afterCreate 3 (buffer 256)) zeros fresh (begins given buffer sized 256 refl) old
-      ∙ ap (λ (n : ℕ). record { answer = Done; reader = record { «read_pos» = 0; last = 0; handed = 0; generation = n } })
-      (first-generation given buffer sized 256 refl)
+      ∙ ap (λ (n : ℕ). record { answer = Done; reader = readerWith 0 0 0 n }) (first-generation given buffer sized 256 refl)
 
   reads : (out : List ℕ) → 128 ≤ length out → Reads (lived given buffer 256 five .ring) out (numberedBytes given 6) (numberedBytes given 7)
   unfolding allowed powerAmong emit latest older after cut
@@ -74,19 +74,21 @@ module _ (given : ℕ → Turn) (buffer : ℕ → List ℕ) (sized : (capacity :
       let reads-six = reads-event 3 256 s w ring h [] (event 6) (event 7 ∷ []) refl (omega arith) in
       let reads-seven = reads-event 3 256 s w ring h (event 6 ∷ []) (event 7) [] refl (omega arith) in
       let first : readOut s (standing 0 0 0) out ≡ answering (reading.Event 128) (standing 416 6 1) next =
-      reads-six (standing 0 0 0) out (omega arith) (omega arith) (omega arith) (omega arith) long in
+      reads-six (standing 0 0 0) out (omega arith) (omega arith) (omega arith) (omega arith) long
+      ∙ ap (λ (r : Reader). answering (reading.Event 128) r next) (says-with (handed-says 416 6 (standing 0 0 0))) in
       let second : readOut s (standing 416 6 1) next ≡ answering (reading.Event 128) (standing 544 7 2) (numberedBytes given 7 ++ drop 128 out) =
       reads-seven (standing 416 6 1) next (omega arith) (omega arith) (omega arith) (omega arith)
       (omega (arith, length-append (numberedBytes given 6) (drop 128 out), six))
-      ∙ ap (λ (l : List ℕ). answering (reading.Event 128) (standing 544 7 2) (numberedBytes given 7 ++ l))
-      (drop-at (numberedBytes given 6) (drop 128 out) 128 six) in
+      ∙ ap₂ (λ (r : Reader) (l : List ℕ). answering (reading.Event 128) r (numberedBytes given 7 ++ l))
+      (says-with (handed-says 544 7 (standing 416 6 1))) (drop-at (numberedBytes given 6) (drop 128 out) 128 six) in
       record {
         first = first;
         first-missed = ap (λ (o : AfterRead). missed (o .answered .reader)) first ∙ refl;
         second = second;
         second-missed = ap (λ (o : AfterRead). missed (o .answered .reader)) second ∙ refl;
         third = reads-empty 3 256 s w ring h (standing 544 7 2) (numberedBytes given 7 ++ drop 128 out) (omega arith) (omega arith) (omega arith)
-            (lived-generation given buffer sized 256 refl five);
+            (lived-generation given buffer sized 256 refl five)
+            ∙ ap (λ (r : Reader). answering reading.Empty r (numberedBytes given 7 ++ drop 128 out)) (moved-nowhere 544 (standing 544 7 2) refl);
       }
 
   -- ---- lines 7 to 9

@@ -5,7 +5,7 @@ use lib.{ListN.length, ListN.take, ListN.drop}
 use Rattle.page_rules.specs.{Page.pageOf}
 use Rattle.writer_rules.specs.{Writer.Numbers, declared.Writer.Writer}
 use Rattle.create_rules.specs.{Create.afterCreate}
-use Rattle.reader_rules.specs.{Reader.missed, Attach.attached, Read.AfterRead, Read.readOut, declared.Reader.Reader, declared.Reading.Reading, declared.Attachment.the-variants.Done as attachmentDone}
+use Rattle.reader_rules.specs.{Reader.missed, Reader.readerWith, Attach.attached, Read.AfterRead, Read.readOut, declared.Reader.Reader, declared.Reading.Reading, declared.Attachment.the-variants.Done as attachmentDone}
 use Rattle.reader_rules.specs.declared.Reading.the-variants.{Empty as readingEmpty, Event as readingEvent}
 use Rattle.run_rules.specs.{Runs.EndPart}
 use Rattle.history.specs.{Ring.Done, Ring.Dropped}
@@ -36,7 +36,7 @@ abbrev pub counted : ℕ → ℕ → ℕ → Writer → Type 0
 counted last dropped overwritten w = Numbers w last dropped overwritten
 
 abbrev pub standing : ℕ → ℕ → ℕ → Reader
-standing place last handed = record { «read_pos» = place; last = last; handed = handed; generation = 1 }
+standing place last handed = readerWith place last handed 1
 
 abbrev pub answering : Reading → Reader → List ℕ → AfterRead
 answering answer reader out = record { answered = record { answer = answer; reader = reader }; out = out }

@@ -12,7 +12,7 @@ use Rattle.table_rules.specs.Refusals.{paperNumber, paperName}
 use Rattle.table_rules.specs.declared.Refusal.{Refusal}
 use Rattle.table_rules.specs.declared.Refusal.the-variants as refusal
 use Rattle.table_rules.proofs.Numbers.{named-at, is-numbered}
-use Rattle.page_rules.specs.Page.{pageOf, pageRows}
+use Rattle.page_rules.specs.Page.{pageOf, pageRows, onRing}
 use Rattle.page_rules.specs.declared.Page.{Page}
 use Rattle.page_rules.specs.Fresh.{blank}
 use Rattle.page_rules.specs.Wake.{needWake, wakes}
@@ -77,7 +77,7 @@ module _ {A : Type 0} (say : Inspected → A) (whole : (v : Summary) (r : Refusa
   v = surveyed s (pageOf s)
 
   inspect-fits : Fits inspections (inspectTable s (say (inspects.Whole (summary v))) (λ n. say (inspects.Refused (paperName (v .stop) n)))) (inspected s)
-  unfolding inspected inspectedOn pageRows
+  unfolding onRing inspected inspectedOn pageRows
   inspect-fits = asks inspections (pageRows s) (asks inspections (inspectionRow s (pageOf s) ∷ []) (says inspections refl (whole (summary v))))
 
   inspect-asked : Asked (λ r. say (inspects.Refused r)) (v .stop) (inspectTable s (say (inspects.Whole (summary v)))) (say (inspected s)) (Unit {0})
@@ -181,7 +181,7 @@ exchanged true = refl
 exchanged false = refl
 
 pub demand1 : Demand1
-unfolding attached readOut readOpened ending readAt eventRows followed followedOn followRows exchange exchangeOn swapRows carriedOver pageRows emitCall recordRows recordAfter
+unfolding onRing attached readOut readOpened ending readAt eventRows followed followedOn followRows exchange exchangeOn swapRows carriedOver pageRows emitCall recordRows recordAfter
 demand1 =
     record {
       create = create-asked (λ x. x) (λ r e. let z : _≡_ {A = ℕ} 0 1 = cc in omega arith);

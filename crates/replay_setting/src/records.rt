@@ -1,5 +1,5 @@
 // The commands that set records: any numbers are taken.
-use reader_rules::Reader;
+use reader::record::reader_with;
 use replay_state::say::words;
 use replay_state::state::State;
 use replay_state::state::unknown;
@@ -9,7 +9,7 @@ use script::Parsed;
 use script::field::field;
 use script::number::number;
 use script::number::number_to;
-use writer::writer_of;
+use writer::writer_with;
 
 pub fn set_writer(line: &[u8], state: State) -> State {
     let w = number_to(field(line, 1), 3);
@@ -26,7 +26,7 @@ pub fn set_writer(line: &[u8], state: State) -> State {
         return unknown(state);
     }
     words(b"ok\n");
-    with_writer(state, w, writer_of(last, dropped, overwritten))
+    with_writer(state, w, writer_with(last, dropped, overwritten))
 }
 
 pub fn set_reader(line: &[u8], state: State) -> State {
@@ -47,14 +47,5 @@ pub fn set_reader(line: &[u8], state: State) -> State {
         return unknown(state);
     }
     words(b"ok\n");
-    with_reader(
-        state,
-        r,
-        Reader {
-            read_pos: read_pos,
-            last: last,
-            handed: handed,
-            generation: generation,
-        },
-    )
+    with_reader(state, r, reader_with(read_pos, last, handed, generation))
 }

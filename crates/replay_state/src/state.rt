@@ -1,5 +1,6 @@
 // What a script plays on beside the bytes of its buffers.
 use crate::say::words;
+use reader::record::reader_with;
 use reader_rules::Reader;
 use writer::zeros;
 use writer_rules::Writer;
@@ -14,12 +15,7 @@ pub struct State {
 
 pub fn fresh() -> State {
     let writer = zeros();
-    let reader = Reader {
-        read_pos: 0,
-        last: 0,
-        handed: 0,
-        generation: 0,
-    };
+    let reader = reader_with(0, 0, 0, 0);
     State {
         lengths: [0; 4],
         writers: [writer; 4],

@@ -6,6 +6,7 @@ use emit_rules::Emitted;
 use emit_rules::Label;
 use reader::attach::attach;
 use reader::read::read;
+use reader::record::reader_with;
 use reader_rules::Reader;
 use reader_rules::Reading;
 use swap::swap;
@@ -17,12 +18,7 @@ ghost use Prim.Native.Nat.{_≤_};
 ghost use lib.ListN.{length};
 
 fn fresh_reader() -> Reader {
-    Reader {
-        read_pos: 0,
-        last: 0,
-        handed: 0,
-        generation: 0,
-    }
+    reader_with(0, 0, 0, 0)
 }
 
 // An event with `size` zero bytes of payload.

@@ -9,7 +9,7 @@ use Rattle.word_rules.specs.Number.{number, byteOf, put}
 use Rattle.word_rules.specs.Fields.{putAll}
 use Rattle.capacity_rules.specs.Capacity.{powerAmong, allowed}
 use Rattle.page_rules.specs.Page.{pageOf, tooShort, differs, wrongMark, wrongVersion, filled, spoiled, wrongLayout}
-use Rattle.page_rules.specs.Page.{wrongLength, wrongPosition, pageRows, opened}
+use Rattle.page_rules.specs.Page.{wrongLength, wrongPosition, pageRows, onRing, opened}
 use Rattle.page_rules.specs.Wake.{wakes, raised, notified}
 use Rattle.page_rules.specs.Fresh.{blank}
 use Rattle.region_rules.specs.Region.{bytesAt, storeAt}
@@ -22,7 +22,7 @@ use Rattle.create_rules.specs.Create.{wrongSize}
 use Rattle.create_rules.proofs.Laws.{size-passed}
 use Rattle.emit_rules.specs.Emit.{writerRows, tooLarge, tooFar, disagrees, eventOf, stored, acceptance, placed, emittedOn, emission}
 use Rattle.inspect_rules.specs.Inspect.{walked, surveyed, damaged, inspectedOn, inspected}
-use Rattle.reader_rules.specs.Reader.{miscounted, ahead, wrongReader}
+use Rattle.reader_rules.specs.Reader.{miscounted, ahead, wrongReader, atTail, movedTo, handedOne}
 use Rattle.reader_rules.specs.Attach.{attached}
 use Rattle.reader_rules.specs.Read.{ending, eventRows, readAt, readOpened, readOut}
 use Rattle.swap_rules.specs.Swap.{lastGeneration, countDiffers, swapRows, newRing}
@@ -30,7 +30,7 @@ use Rattle.swap_rules.specs.Swap.{retired, carriedOver, exchangeOn, exchange}
 use Rattle.worked_bytes.specs.Worked.{pageBytes, laid, headerBytes, WorkedPages, WorkedEmissions, WorkedReads, WorkedSwaps, Worked}
 
 pages : WorkedPages
-unfolding opened pageRows pageOf tooShort differs wrongMark wrongVersion wrongLayout filled spoiled wrongLength wrongPosition
+unfolding onRing opened pageRows pageOf tooShort differs wrongMark wrongVersion wrongLayout filled spoiled wrongLength wrongPosition
     first any number allowed powerAmong wrongSize blank putAll put byteOf pageBytes laid headerBytes
 pages =
     record {
@@ -46,7 +46,7 @@ pages =
 
 reads : WorkedReads
 unfolding pages inspected inspectedOn damaged surveyed walked soundRun runUpTo passable wellFormed faults live rest bytesAt joined
-    attached readOut readOpened wrongReader miscounted ahead ending readAt eventRows
+    atTail movedTo handedOne attached readOut readOpened wrongReader miscounted ahead ending readAt eventRows
 reads =
     record {
       inspects-none = refl;

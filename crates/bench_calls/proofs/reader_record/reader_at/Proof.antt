@@ -1,4 +1,6 @@
--- Field by field: each is the number that was read at its place.
+-- The record of the four numbers read, each where `readerOf` has it.
+use mathlib.Core.Path.{_∙_}
+use Rattle.reader_rules.specs.Reader.{readerWith}
 use Rattle.bench_calls.specs.Calls.{readerOf}
 use borrow.Author.Needs.{needs}
 use Rattle.bench_calls.proofs.reader_record.reader_at.Statement.{statement}
@@ -16,17 +18,18 @@ get64-requires-3 c κs = search needs
 get64-requires-4 : tie.Need-get64-requires-4
 get64-requires-4 c κs = search needs
 
+reader-with-requires : tie.Need-reader-with-requires
+reader-with-requires c κs = search needs
+
 returns : tie.Need-returns
 unfolding readerOf
 returns c =
-    λ i.
-    record {
-      «read_pos» = c .before .before .before .get64 .ensures i;
-      last = c .before .before .get642 .ensures i;
-      handed = c .before .get643 .ensures i;
-      generation = c .get644 .ensures i;
-    }
+    let fourth = c .before in
+    let third = fourth .before in
+    let second = third .before in
+    c .reader-with .ensures
+    ∙ (λ i. readerWith (second .before .get64 .ensures i) (second .get642 .ensures i) (third .get643 .ensures i) (fourth .get644 .ensures i))
 
 pub reader-at-spec : {M : Type 1} → statement M
 reader-at-spec =
-    tie.close (tie.spec get64-requires get64-requires-2 get64-requires-3 get64-requires-4 returns)
+    tie.close (tie.spec get64-requires get64-requires-2 get64-requires-3 get64-requires-4 reader-with-requires returns)

@@ -5,7 +5,8 @@ use lib.{ListN.length, ListN.drop}
 use Rattle.page_rules.specs.{Page.pageOf}
 use Rattle.create_rules.specs.{Create.afterCreate}
 use Rattle.writer_rules.specs.{declared.Writer.Writer}
-use Rattle.reader_rules.specs.{Reader.readerWith, Attach.attached, Read.AfterRead, Read.readOut, declared.Reader.Reader, declared.Attached.Attached, declared.Attachment.the-variants.Done as attachmentDone}
+use Rattle.reader_rules.specs.{Reader.readerWith, Attach.attached, Read.AfterRead, Read.readOut}
+use Rattle.reader_rules.specs.{declared.Reader.Reader, declared.Attached.Attached, declared.Attachment.the-variants.Done as attachmentDone}
 use Rattle.reader_rules.specs.declared.Reading.the-variants.{Empty as readingEmpty, Event as readingEvent}
 use Rattle.run_rules.specs.{Runs.lastOf, Runs.LongestRun}
 use Rattle.history.specs.{Ring.sequenceOf, Ring.Numbered, Ring.Ring}

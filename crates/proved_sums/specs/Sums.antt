@@ -5,7 +5,8 @@ use lib.{ListN.length, ListN.take, ListN.drop}
 use Rattle.page_rules.specs.{Page.pageOf}
 use Rattle.writer_rules.specs.{Writer.Numbers, declared.Writer.Writer}
 use Rattle.create_rules.specs.{Create.afterCreate}
-use Rattle.reader_rules.specs.{Reader.missed, Reader.readerWith, Attach.attached, Read.AfterRead, Read.readOut, declared.Reader.Reader, declared.Reading.Reading, declared.Attachment.the-variants.Done as attachmentDone}
+use Rattle.reader_rules.specs.{Reader.missed, Reader.readerWith, Attach.attached, Read.AfterRead, Read.readOut}
+use Rattle.reader_rules.specs.{declared.Reader.Reader, declared.Reading.Reading, declared.Attachment.the-variants.Done as attachmentDone}
 use Rattle.reader_rules.specs.declared.Reading.the-variants.{Empty as readingEmpty, Event as readingEvent}
 use Rattle.run_rules.specs.{Runs.EndPart}
 use Rattle.history.specs.{Ring.Done, Ring.Dropped}

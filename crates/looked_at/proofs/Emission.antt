@@ -6,7 +6,7 @@ use lib.ListN.{length}
 use Rattle.table_rules.specs.declared.Refusal.{Refusal}
 use Rattle.table_rules.specs.declared.Refusal.the-variants as refusal
 use Rattle.table_rules.proofs.Laws.{cond-both, answers-both}
-use Rattle.page_rules.specs.Page.{pageOf, pageRows, positions}
+use Rattle.page_rules.specs.Page.{pageOf, pageRows, onRing, positions}
 use Rattle.page_rules.specs.declared.Page.{Page}
 use Rattle.region_rules.specs.Region.{storeAt}
 use Rattle.event_rules.specs.Walk.{walkFrom}
@@ -65,7 +65,7 @@ module _ {s t : List ℕ} (g : Agree s t) (w : Writer) where
         (writerRows w)
 
     pub emission-agree : Agreeing (emission s w label payload) (emission t w label payload)
-    unfolding emission
+    unfolding onRing emission
     emission-agree =
         rw (rows-same g, page-same g)
         (answers-both Agreeing (refuse s w) (refuse t w) _ _ refuse-agree (on-agree (pageOf s)) (pageRows s))

@@ -6,7 +6,7 @@ use mathlib.Core.List.{List}
 use lib.ListN.{length}
 use Rattle.table_rules.specs.declared.Refusal.{Refusal}
 use Rattle.table_rules.proofs.Laws.{answers-both}
-use Rattle.page_rules.specs.Page.{pageOf, pageRows}
+use Rattle.page_rules.specs.Page.{pageOf, pageRows, onRing}
 use Rattle.page_rules.specs.declared.Page.{Page}
 use Rattle.writer_rules.specs.declared.Writer.{Writer}
 use Rattle.create_rules.specs.Create.{wrongSize}
@@ -45,6 +45,6 @@ module _ {s t : List ℕ} (g : Agree s t) (new new′ : List ℕ) (long : length
       (answers-both Agreeing (refuseSwap s new w) (refuseSwap t new′ w) _ _ refuse-agree (carried-agree p) (swapRows s p new w))
 
   pub exchange-agree : Agreeing (exchange s new w) (exchange t new′ w)
-  unfolding exchange
+  unfolding onRing exchange
   exchange-agree =
       rw (rows-same g, page-same g) (answers-both Agreeing (refuseSwap s new w) (refuseSwap t new′ w) _ _ refuse-agree (on-agree (pageOf s)) (pageRows s))

@@ -151,7 +151,7 @@ module _ (s : List ℕ) (p : Page) (is : opened s ≡ opens.Page p) (at : ℕ) w
       let row =
       stopped swaps.Refused (exchanging (wakes (needWake s))) (swapRows s p t w) (refusal.Damaged at) (λ r q. cc) (never (wakes (needWake s)))
       (sym (first-map (λ (a : AfterSwap). a .answer .outcome) (swapRefuse s t w) (carriedOver s p t w) (swapRows s p t w))
-      ∙ sym (ap (λ (a : AfterSwap). a .answer .outcome) (swapCases.page-opened s t w p is)) ∙ e) in
+      ∙ sym (ap (λ (a : AfterSwap). a .answer .outcome) (swapCases.on-sound s t w p h)) ∙ e) in
       swap-row t w (row .0) (row .1)
     where
       never : (b : Bool) → exchanging b ≡ swaps.Refused (refusal.Damaged at) → ⊥
@@ -256,7 +256,7 @@ module _ (s : List ℕ) (p : Page) (is : opened s ≡ opens.Page p) (at : ℕ) w
         (either (wrongWriter w))
       where
         told-by : {a : AfterEmit} → emittedOn s p w label payload ≡ a → (says a → Stuck) → Stuck
-        told-by e f = f (subst says (emitCases.page-opened s w label payload p is ∙ e) q)
+        told-by e f = f (subst says (emitCases.on-sound s w label payload p h ∙ e) q)
 
     emits-there : Stuck → says (emission s w label payload)
     emits-there (right, fit, events, up, over, bad) =
@@ -267,7 +267,7 @@ module _ (s : List ℕ) (p : Page) (is : opened s ≡ opens.Page p) (at : ℕ) w
         (omega (arith, up .below)) (omega (arith, up .below)) bad (p .«tail_pos») 0
         ∙ ap walks.Damaged (place-is events up) in
         ap (λ (a : AfterEmit). a .answer .outcome)
-        (emitCases.page-opened s w label payload p is
+        (emitCases.on-sound s w label payload p h
         ∙ emitCases.is-placed s w label payload p right (fit .0) (fit .1) (fit .2)
         ∙ emitCases.walk-ended s w label payload p (walks.Damaged at) ends)
 

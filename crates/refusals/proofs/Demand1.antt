@@ -107,7 +107,7 @@ module _ {A : Type 0} (say : Outcome → A) (other : (e : Outcome) → isRefused
       (emitTable s w (32 + length payload) (say emits.Dropped) (say emits.Wake) (say emits.Done)
       (λ n. say (emits.Refused (paperName (badPlace (emit.walkEnd s (pageOf s) (32 + length payload))) n))))
       (emit.emission s w label payload)
-  unfolding emit.emission emit.emittedOn emit.writerRows emit.dropped emit.placed pageRows
+  unfolding onRing emit.emission emit.emittedOn emit.writerRows emit.dropped emit.placed pageRows
   emit-fits label payload =
       asks emissions (pageRows s)
       (asks emissions (emit.writerRows w)

@@ -1,5 +1,5 @@
 // RULES 8.2: the firmware has no such calls. Reading and the swap as C can call them, for the measurement in bench/ alone.
-// Records lie in bytes as the firmware's calls have them. What the firmware's calls have no number for gets one of this crate's own, 100 or above.
+// Records lie in bytes as the firmware's calls have them. What the firmware's calls have no number for gets one of this crate's own, 1,000 or above.
 use crate::reader_record::keep_reader;
 use crate::reader_record::reader_at;
 use console::answer::emitted_number;
@@ -28,9 +28,9 @@ fn answer_number(answer: BenchAnswer) -> u32
 {
     match answer {
         BenchAnswer::Event => 0,
-        BenchAnswer::RecordLength => 100,
-        BenchAnswer::Empty => 101,
-        BenchAnswer::Moved => 102,
+        BenchAnswer::RecordLength => 1000,
+        BenchAnswer::Empty => 1001,
+        BenchAnswer::Moved => 1002,
         BenchAnswer::Refused(refusal) => refusal_number(refusal),
     }
 }

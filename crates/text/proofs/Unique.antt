@@ -1,9 +1,7 @@
 -- A number has one numeral: its last digit is the remainder by ten, and what stands before that is a numeral of the quotient (`by-quotient`).
 use Prim.Native.Nat.{ℕ, _+_, _-_, _*_, _/_, _%_, _≤_, _<_}
 use mathlib.Core.Path.{_≡_}
-use mathlib.Core.Logic.{by-cases}
 use mathlib.Core.List.{List, [], _∷_, _++_}
-use native.Mathlib.Decide.{decLt}
 use native.Mathlib.Omega.{arith}
 use lib.ListN.{length-append}
 use Rattle.text.specs.Decimal.{decimal, readOn, readBack, Digits, Numeral}

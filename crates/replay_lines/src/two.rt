@@ -3,10 +3,12 @@ use replay_state::state::State;
 use replay_state::state::unknown;
 use script::field::field;
 use script::number::number_to;
+ghost use mathlib.Core.Path.{_≡_};
 ghost use Prim.Native.Nat.{_≤_};
 
 fn on_pair(line: &[u8], state: State, b: usize, c: usize, old: &mut [u8], new: &mut [u8]) -> State
     requires { ⌜ (b ≤ 3) × (c ≤ 3) ⌝ }
+    ensures { λ r. ⌜ (r .lengths ≡ state .lengths) × (r .readers ≡ state .readers) ⌝ }
 {
     let from = state.lengths[b];
     let to = state.lengths[c];
@@ -33,6 +35,7 @@ fn on_others(
     z: &mut [u8],
 ) -> State
     requires { ⌜ (b ≤ 3) × (i ≤ 3) × (j ≤ 3) × (k ≤ 3) ⌝ }
+    ensures { λ r. ⌜ (r .lengths ≡ state .lengths) × (r .readers ≡ state .readers) ⌝ }
 {
     let to = number_to(field(line, 2), 3);
     if to == i {
@@ -54,7 +57,9 @@ pub fn on_two(
     second: &mut [u8],
     third: &mut [u8],
     fourth: &mut [u8],
-) -> State {
+) -> State
+    ensures { λ r. ⌜ (r .lengths ≡ state .lengths) × (r .readers ≡ state .readers) ⌝ }
+{
     match number_to(field(line, 1), 3) {
         0 => on_others(line, state, 0, 1, 2, 3, first, second, third, fourth),
         1 => on_others(line, state, 1, 0, 2, 3, second, first, third, fourth),

@@ -9,6 +9,7 @@ use replay_state::state::unknown;
 use replay_state::state::with_reader;
 use script::field::field;
 use script::number::number_to;
+ghost use mathlib.Core.Path.{_≡_};
 ghost use Prim.Native.Nat.{_≤_};
 
 pub fn inspect(ring: &[u8]) {
@@ -26,6 +27,7 @@ pub fn inspect(ring: &[u8]) {
 // What attaching and following answer.
 fn attachment(state: State, r: usize, attached: Attached) -> State
     requires { ⌜ r ≤ 3 ⌝ }
+    ensures { λ next. ⌜ (next .lengths ≡ state .lengths) × (next .writers ≡ state .writers) ⌝ }
 {
     let answer = attached.answer;
     match answer {
@@ -36,7 +38,9 @@ fn attachment(state: State, r: usize, attached: Attached) -> State
     with_reader(state, r, attached.reader)
 }
 
-pub fn attach(line: &[u8], state: State, ring: &[u8]) -> State {
+pub fn attach(line: &[u8], state: State, ring: &[u8]) -> State
+    ensures { λ next. ⌜ (next .lengths ≡ state .lengths) × (next .writers ≡ state .writers) ⌝ }
+{
     let r = number_to(field(line, 2), 3);
     if r > 3 {
         return unknown(state);
@@ -44,7 +48,9 @@ pub fn attach(line: &[u8], state: State, ring: &[u8]) -> State {
     attachment(state, r, reader::attach::attach(ring, state.readers[r]))
 }
 
-pub fn follow(line: &[u8], state: State, ring: &[u8]) -> State {
+pub fn follow(line: &[u8], state: State, ring: &[u8]) -> State
+    ensures { λ next. ⌜ (next .lengths ≡ state .lengths) × (next .writers ≡ state .writers) ⌝ }
+{
     let r = number_to(field(line, 2), 3);
     if r > 3 {
         return unknown(state);
@@ -69,7 +75,9 @@ fn reading(answer: Reading, out: &[u8]) {
     }
 }
 
-pub fn read(line: &[u8], state: State, ring: &[u8], out: &mut [u8]) -> State {
+pub fn read(line: &[u8], state: State, ring: &[u8], out: &mut [u8]) -> State
+    ensures { λ next. ⌜ (next .lengths ≡ state .lengths) × (next .writers ≡ state .writers) ⌝ }
+{
     let r = number_to(field(line, 2), 3);
     let n = number_to(field(line, 3), 40960);
     if r > 3 {

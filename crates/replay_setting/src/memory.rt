@@ -10,10 +10,12 @@ use script::hex::hex;
 use script::number::number;
 use word::run::clear;
 use word::run::copy;
+ghost use mathlib.Core.Path.{_≡_};
 ghost use Prim.Native.Nat.{_≤_};
 
 pub fn size(line: &[u8], state: State, b: usize, buffer: &mut [u8]) -> State
     requires { ⌜ b ≤ 3 ⌝ }
+    ensures { λ r. ⌜ (r .writers ≡ state .writers) × (r .readers ≡ state .readers) ⌝ }
 {
     let Parsed::Is(n) = number(field(line, 2)) else {
         return unknown(state);
@@ -27,7 +29,9 @@ pub fn size(line: &[u8], state: State, b: usize, buffer: &mut [u8]) -> State
     with_length(state, b, n as usize)
 }
 
-pub fn put(line: &[u8], state: State, buffer: &mut [u8]) -> State {
+pub fn put(line: &[u8], state: State, buffer: &mut [u8]) -> State
+    ensures { λ r. ⌜ r ≡ state ⌝ }
+{
     let mut bytes = buffer_room();
     let n = hex(field(line, 3), &mut bytes);
     let Parsed::Is(at) = number(field(line, 2)) else {
@@ -49,7 +53,9 @@ pub fn put(line: &[u8], state: State, buffer: &mut [u8]) -> State {
     state
 }
 
-pub fn get(line: &[u8], state: State, buffer: &[u8]) -> State {
+pub fn get(line: &[u8], state: State, buffer: &[u8]) -> State
+    ensures { λ r. ⌜ r ≡ state ⌝ }
+{
     let Parsed::Is(at) = number(field(line, 2)) else {
         return unknown(state);
     };

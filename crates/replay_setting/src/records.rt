@@ -10,8 +10,11 @@ use script::field::field;
 use script::number::number;
 use script::number::number_to;
 use writer::writer_with;
+ghost use mathlib.Core.Path.{_≡_};
 
-pub fn set_writer(line: &[u8], state: State) -> State {
+pub fn set_writer(line: &[u8], state: State) -> State
+    ensures { λ r. ⌜ (r .lengths ≡ state .lengths) × (r .readers ≡ state .readers) ⌝ }
+{
     let w = number_to(field(line, 1), 3);
     let Parsed::Is(last) = number(field(line, 2)) else {
         return unknown(state);
@@ -29,7 +32,9 @@ pub fn set_writer(line: &[u8], state: State) -> State {
     with_writer(state, w, writer_with(last, dropped, overwritten))
 }
 
-pub fn set_reader(line: &[u8], state: State) -> State {
+pub fn set_reader(line: &[u8], state: State) -> State
+    ensures { λ r. ⌜ (r .lengths ≡ state .lengths) × (r .writers ≡ state .writers) ⌝ }
+{
     let r = number_to(field(line, 1), 3);
     let Parsed::Is(read_pos) = number(field(line, 2)) else {
         return unknown(state);

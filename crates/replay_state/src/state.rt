@@ -4,7 +4,9 @@ use reader::record::reader_with;
 use reader_rules::Reader;
 use writer::zeros;
 use writer_rules::Writer;
+ghost use mathlib.Core.Path.{_≡_};
 ghost use Prim.Native.Nat.{_≤_};
+ghost use lib.ListN.{set};
 
 // How many bytes of each buffer are in use, and the records.
 pub struct State {
@@ -25,6 +27,9 @@ pub fn fresh() -> State {
 
 pub fn with_length(state: State, b: usize, length: usize) -> State
     requires { ⌜ b ≤ 3 ⌝ }
+    ensures lengths { λ r. ⌜ r .lengths ≡ set (state .lengths) b length ⌝ }
+    ensures writers { λ r. ⌜ r .writers ≡ state .writers ⌝ }
+    ensures readers { λ r. ⌜ r .readers ≡ state .readers ⌝ }
 {
     let mut next = state;
     next.lengths[b] = length;
@@ -33,6 +38,9 @@ pub fn with_length(state: State, b: usize, length: usize) -> State
 
 pub fn with_writer(state: State, w: usize, writer: Writer) -> State
     requires { ⌜ w ≤ 3 ⌝ }
+    ensures lengths { λ r. ⌜ r .lengths ≡ state .lengths ⌝ }
+    ensures writers { λ r. ⌜ r .writers ≡ set (state .writers) w writer ⌝ }
+    ensures readers { λ r. ⌜ r .readers ≡ state .readers ⌝ }
 {
     let mut next = state;
     next.writers[w] = writer;
@@ -41,6 +49,9 @@ pub fn with_writer(state: State, w: usize, writer: Writer) -> State
 
 pub fn with_reader(state: State, r: usize, reader: Reader) -> State
     requires { ⌜ r ≤ 3 ⌝ }
+    ensures lengths { λ next. ⌜ next .lengths ≡ state .lengths ⌝ }
+    ensures writers { λ next. ⌜ next .writers ≡ state .writers ⌝ }
+    ensures readers { λ next. ⌜ next .readers ≡ set (state .readers) r reader ⌝ }
 {
     let mut next = state;
     next.readers[r] = reader;
@@ -48,7 +59,9 @@ pub fn with_reader(state: State, r: usize, reader: Reader) -> State
 }
 
 // A line that is no command, or has a wrong field, changes nothing.
-pub fn unknown(state: State) -> State {
+pub fn unknown(state: State) -> State
+    ensures { λ r. ⌜ r ≡ state ⌝ }
+{
     words(b"unknown\n");
     state
 }

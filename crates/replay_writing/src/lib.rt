@@ -11,8 +11,11 @@ use script::field::field;
 use script::hex::hex;
 use script::number::number;
 use script::number::number_to;
+ghost use mathlib.Core.Path.{_≡_};
 
-pub fn create(line: &[u8], state: State, ring: &mut [u8]) -> State {
+pub fn create(line: &[u8], state: State, ring: &mut [u8]) -> State
+    ensures { λ r. ⌜ r ≡ state ⌝ }
+{
     let cpu_id = number_to(field(line, 2), 65535);
     if cpu_id > 65535 {
         return unknown(state);
@@ -35,7 +38,9 @@ fn emission(answer: emit_rules::Outcome) {
 }
 
 // The fields that an emission has beside its payload.
-fn emit_payload(line: &[u8], state: State, ring: &mut [u8], payload: &[u8]) -> State {
+fn emit_payload(line: &[u8], state: State, ring: &mut [u8], payload: &[u8]) -> State
+    ensures { λ r. ⌜ (r .lengths ≡ state .lengths) × (r .readers ≡ state .readers) ⌝ }
+{
     let w = number_to(field(line, 2), 3);
     let event_type = number_to(field(line, 4), 4294967295);
     let origin_class = number_to(field(line, 5), 255);
@@ -63,7 +68,9 @@ fn emit_payload(line: &[u8], state: State, ring: &mut [u8], payload: &[u8]) -> S
     with_writer(state, w, emitted.writer)
 }
 
-pub fn emit(line: &[u8], state: State, ring: &mut [u8]) -> State {
+pub fn emit(line: &[u8], state: State, ring: &mut [u8]) -> State
+    ensures { λ r. ⌜ (r .lengths ≡ state .lengths) × (r .readers ≡ state .readers) ⌝ }
+{
     let mut payload = buffer_room();
     let n = hex(field(line, 6), &mut payload);
     if n > 40960 {
@@ -73,7 +80,9 @@ pub fn emit(line: &[u8], state: State, ring: &mut [u8]) -> State {
 }
 
 // A payload of zero bytes, by its length.
-pub fn emitlen(line: &[u8], state: State, ring: &mut [u8]) -> State {
+pub fn emitlen(line: &[u8], state: State, ring: &mut [u8]) -> State
+    ensures { λ r. ⌜ (r .lengths ≡ state .lengths) × (r .readers ≡ state .readers) ⌝ }
+{
     let n = number_to(field(line, 6), 40960);
     if n > 40960 {
         return unknown(state);
@@ -90,7 +99,9 @@ fn exchange(answer: swap_rules::SwapOutcome) {
     }
 }
 
-pub fn swap(line: &[u8], state: State, old: &mut [u8], new: &mut [u8]) -> State {
+pub fn swap(line: &[u8], state: State, old: &mut [u8], new: &mut [u8]) -> State
+    ensures { λ r. ⌜ (r .lengths ≡ state .lengths) × (r .readers ≡ state .readers) ⌝ }
+{
     let w = number_to(field(line, 3), 3);
     if w > 3 {
         return unknown(state);

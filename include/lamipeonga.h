@@ -41,9 +41,12 @@
 extern "C" {
 #endif
 
-/* of this header: MAJOR goes up when a caller must be changed, MINOR when something is only added */
+/*
+ * of this header: MAJOR goes up when a caller must be changed, MINOR when something is only added
+ *   1.1  WAKE at every need_wake but 0; in 1.0 at 1 alone
+ */
 #define LAMIPEONGA_VERSION_MAJOR 1
-#define LAMIPEONGA_VERSION_MINOR 0
+#define LAMIPEONGA_VERSION_MINOR 1
 
 /* of a ring's bytes: the number at offset 8, 4 bytes; any other is refused, see LAMIPEONGA_VERSION below */
 #define LAMIPEONGA_FORMAT_VERSION 1
@@ -90,7 +93,7 @@ enum lamipeonga_answer {
 /* the writer's record: last sequence given, events dropped, events overwritten, 8 bytes each; all zero with a fresh ring */
 #define LAMIPEONGA_RECORD_BYTES 24
 
-/* places in a ring: the counter that a wake moves (4 bytes), and the flag that a consumer sets to 1 before it waits (1 byte) */
+/* places in a ring: the counter that a wake moves (4 bytes), and the flag that a consumer sets before it waits (1 byte; whatever isn't 0 is set) */
 #define LAMIPEONGA_FUTEX_COUNTER_AT 128
 #define LAMIPEONGA_NEED_WAKE_AT 4096
 
@@ -111,7 +114,7 @@ uint32_t lamipeonga_create(uint8_t *ring, size_t ring_bytes, uint16_t cpu_id);
  *   payload, payload_bytes   the event's content, of any length; none is a length of 0
  * Answers DONE; WAKE, which is done too; DROPPED if LAMIPEONGA_HEADER_BYTES + payload_bytes is above half the capacity; or one of SHORT to DISAGREE
  * and RECORD. DONE, WAKE and DROPPED use up one sequence number.
- * WAKE is answered if the byte at LAMIPEONGA_NEED_WAKE_AT is 1. The flag is the consumer's: no call writes it.
+ * WAKE is answered if the byte at LAMIPEONGA_NEED_WAKE_AT isn't 0. The flag is the consumer's: no call writes it.
  */
 uint32_t lamipeonga_emit(uint8_t *ring, size_t ring_bytes, uint8_t *record, size_t record_bytes, uint64_t timestamp, uint32_t event_type,
                          uint8_t origin_class, const uint8_t *payload, size_t payload_bytes);

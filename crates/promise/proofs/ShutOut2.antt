@@ -18,6 +18,7 @@ use Rattle.page_rules.specs.Page.{pageOf}
 use Rattle.page_rules.specs.Wake.{futexCounter, wakes}
 use Rattle.page_rules.proofs.Sound.{sound-length}
 use Rattle.page_rules.proofs.Fresh.{blank-zero}
+use Rattle.page_rules.proofs.Wake.{all-but-zero}
 use Rattle.event_rules.specs.Event.{timestamp}
 use Rattle.event_rules.specs.Run.{joined}
 use Rattle.event_rules.proofs.Made.{made-before}
@@ -109,11 +110,12 @@ module _ (buffer : List ℕ) (long : length buffer ≡ 8192 + 256) (page : List 
   one-long = sound-length (one .ring) (pageOf (one .ring)) (sound-of (holds (first ∷ [])))
 
   unraising-shut : getD page 0 0 ≡ 1 → FreshBy2 unraising → ⊥
-  unfolding madeBy afterBy uncalled wakes
+  unfolding madeBy afterBy uncalled
   unraising-shut waits meets =
       let promise = fresh2 0 256 (omega arith) fit buffer long (first ∷ []) .1 in
+      let flagged : wakes (getD page 0 0) ≡ true = ap wakes waits ∙ all-but-zero .1 1 (λ (e : _≡_ {A = ℕ} 1 0). omega arith) in
       let told : emitted begun first .answer .outcome ≡ Wake =
-      promise .exact .0 Wake .1 (ap wakes waits, (λ (e : _≡_ {A = ℕ} 0 (2 ^ 64 - 1)). omega arith, omega arith, omega arith)) in
+      promise .exact .0 Wake .1 (flagged, (λ (e : _≡_ {A = ℕ} 0 (2 ^ 64 - 1)). omega arith, omega arith, omega arith)) in
       let now : List ℕ = consumed (begun .ring) page in
       let wide : 8192 ≤ length now = omega (arith, one-long, ap length (promise .ring) ∙ layer-length _ _ now _ _ _ _) in
       omega (

@@ -17,10 +17,10 @@ use Rattle.event_rules.specs.Event.{faults, wellFormed, headerOf, eventBytes}
 use Rattle.event_rules.specs.Run.{joined, passable, runUpTo, soundRun}
 use Rattle.event_rules.specs.Walk.{walkUpTo, walkFrom}
 use Rattle.look_rules.specs.Live.{rest, live}
-use Rattle.writer_rules.specs.Writer.{oneAccepted, someDiscarded, outstanding, wrongWriter}
+use Rattle.writer_rules.specs.Writer.{oneDropped, oneAccepted, someDiscarded, outstanding, wrongWriter}
 use Rattle.create_rules.specs.Create.{wrongSize}
 use Rattle.create_rules.proofs.Laws.{size-passed}
-use Rattle.emit_rules.specs.Emit.{writerRows, tooLarge, tooFar, disagrees, eventOf, stored, acceptance, placed, emittedOn, emission}
+use Rattle.emit_rules.specs.Emit.{writerRows, tooLarge, dropped, tooFar, disagrees, eventOf, stored, acceptance, placed, emittedOn, emission}
 use Rattle.inspect_rules.specs.Inspect.{walked, surveyed, damaged, inspectedOn, inspected}
 use Rattle.reader_rules.specs.Reader.{miscounted, ahead, wrongReader, atTail, movedTo, handedOne}
 use Rattle.reader_rules.specs.Attach.{attached}
@@ -58,13 +58,13 @@ reads =
     }
 
 emissions : WorkedEmissions
-unfolding reads emission emittedOn writerRows wrongWriter tooLarge tooFar placed walkFrom walkUpTo
+unfolding reads emission emittedOn writerRows wrongWriter tooLarge dropped oneDropped tooFar placed walkFrom walkUpTo
     eventOf eventBytes headerOf disagrees acceptance oneAccepted stored storeAt wakes raised notified
-emissions = record { need-wake-0 = refl; need-wake-1 = refl; need-wake-2 = refl; damaged-second = refl }
+emissions = record { need-wake-0 = refl; need-wake-1 = refl; need-wake-2 = refl; need-wake-255 = refl; drop-unheard = refl; damaged-second = refl }
 
 swaps : WorkedSwaps
 unfolding emissions exchange exchangeOn swapRows lastGeneration damaged countDiffers outstanding carriedOver someDiscarded older latest newRing retired
-swaps = record { unwatched = refl; watched = refl }
+swaps = record { unwatched = refl; watched = refl; watched-255 = refl }
 
 pub worked : Worked
 worked = record { pages = pages; emissions = emissions; reads = reads; swaps = swaps }

@@ -178,17 +178,30 @@ unsigned run_refusals(void)
     return met;
 }
 
-/* need_wake as found, the answer, and how far futex_counter goes */
-static void woken(uint8_t need_wake, uint32_t wanted, uint64_t step)
+/* need_wake as found, the answer, and futex_counter before and after */
+static void woken(uint8_t need_wake, uint32_t wanted, uint64_t before, uint64_t after)
 {
     full();
     set_ring(LAMIPEONGA_NEED_WAKE_AT, 1, need_wake);
-    set_ring(LAMIPEONGA_FUTEX_COUNTER_AT, 4, 41);
+    set_ring(LAMIPEONGA_FUTEX_COUNTER_AT, 4, before);
     expect_number("need_wake", wanted, emit_small());
-    expect_number("futex_counter", 41 + step, number_at(ring[ARCHIVE] + LAMIPEONGA_FUTEX_COUNTER_AT, 4));
+    expect_number("futex_counter", after, number_at(ring[ARCHIVE] + LAMIPEONGA_FUTEX_COUNTER_AT, 4));
     expect_number("need_wake stays", need_wake, ring[ARCHIVE][LAMIPEONGA_NEED_WAKE_AT]);
     expect_number("no wake for a dropped event", LAMIPEONGA_DROPPED, emit(1, 2, 3, payload, 97));
-    expect_number("futex_counter stays", 41 + step, number_at(ring[ARCHIVE] + LAMIPEONGA_FUTEX_COUNTER_AT, 4));
+    expect_number("futex_counter stays", after, number_at(ring[ARCHIVE] + LAMIPEONGA_FUTEX_COUNTER_AT, 4));
+    expect_number("need_wake stays after it", need_wake, ring[ARCHIVE][LAMIPEONGA_NEED_WAKE_AT]);
+}
+
+/* every value but 0 asks for a wake, and the highest counter goes to 0 */
+static void flags(void)
+{
+    static const uint8_t asking[] = {1, 2, 255};
+    woken(0, LAMIPEONGA_DONE, 41, 41);
+    woken(0, LAMIPEONGA_DONE, 4294967295, 4294967295);
+    for (size_t i = 0; i < sizeof asking / sizeof asking[0]; i++) {
+        woken(asking[i], LAMIPEONGA_WAKE, 41, 42);
+        woken(asking[i], LAMIPEONGA_WAKE, 4294967295, 0);
+    }
 }
 
 static void empty_buffers(void)
@@ -202,8 +215,6 @@ static void empty_buffers(void)
 
 void run_edges(void)
 {
-    woken(0, LAMIPEONGA_DONE, 0);
-    woken(1, LAMIPEONGA_WAKE, 1);
-    woken(255, LAMIPEONGA_DONE, 0);
+    flags();
     empty_buffers();
 }

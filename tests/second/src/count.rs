@@ -31,7 +31,7 @@ fn stored_counts(folder: &Path) -> Result<Counts, String> {
     Ok(counts)
 }
 
-fn scripts(folder: &Path) -> Result<Vec<std::path::PathBuf>, String> {
+pub fn scripts(folder: &Path) -> Result<Vec<std::path::PathBuf>, String> {
     let entries = fs::read_dir(folder).map_err(|error| error.to_string())?;
     let mut paths: Vec<_> = entries.filter_map(|entry| entry.ok().map(|entry| entry.path())).collect();
     paths.retain(|path| path.extension().is_some_and(|extension| extension == "script"));
@@ -67,7 +67,7 @@ fn refused(number: u8) -> String {
     format!("refused {number:>2}")
 }
 
-fn word(line: &[u8], index: usize) -> String {
+pub fn word(line: &[u8], index: usize) -> String {
     let text = String::from_utf8_lossy(line);
     text.split_whitespace().nth(index).unwrap_or("").to_string()
 }

@@ -1,6 +1,7 @@
 //! The second implementation: what `replay` must answer, and scripts to ask it.
 
 mod count;
+mod count_wakes;
 mod generate;
 mod ring;
 mod script;
@@ -24,7 +25,7 @@ fn main() -> ExitCode {
         ["answer"] => answer_input(),
         ["generate", folder] => stored::write(Path::new(folder)),
         ["check", folder] => stored::check(Path::new(folder)),
-        ["count", folder] => count::print(Path::new(folder)),
+        ["count", folder] => count::print(Path::new(folder)).and_then(|()| count_wakes::print(Path::new(folder))),
         _ => Err(USAGE.to_string()),
     };
     match outcome {

@@ -1,4 +1,4 @@
-//! Fields of the page: capacity, version, data offset, generation, need_wake and futex_counter.
+//! Fields of the page: capacity, version, data offset, generation.
 
 use crate::generate::calls::{set_readers, Calls};
 use crate::generate::pen::Pen;
@@ -9,7 +9,6 @@ pub fn write(pen: &mut Pen) {
     versions(pen);
     data_offsets(pen);
     generations(pen);
-    wakes(pen);
 }
 
 /// Powers of two, their neighbours, and two bits set, on the largest ring and on the smallest.
@@ -71,28 +70,5 @@ fn readers_of_generation(pen: &mut Pen, generation: u64) {
         pen.writer(0, 2, 0, 0);
         set_readers(pen, sketch.write_pos(), 1, 1, of_reader);
         Calls::default().looks(pen);
-    }
-}
-
-fn wakes(pen: &mut Pen) {
-    pen.fresh(0, 256, 7);
-    pen.writer(0, 0, 0, 0);
-    for flag in [0u8, 1, 2, 129, 255] {
-        counters(pen, flag);
-        pen.say("swap 0 1 0");
-        pen.say("get 0 128 4");
-        pen.say("get 1 4096 1");
-        pen.sum(0);
-        pen.say("swap 1 0 0");
-    }
-}
-
-fn counters(pen: &mut Pen, flag: u8) {
-    for counter in [0u32, 1, 255, 256, 65_535, 0xFF_FFFF, 0x7FFF_FFFF, 0x8000_0000, u32::MAX - 1, u32::MAX] {
-        pen.put(0, 128, &counter.to_le_bytes());
-        pen.put(0, 4096, &[flag]);
-        let payload = pen.random.pick(&[0, 10, 60, 97]);
-        pen.emit(0, 0, payload);
-        pen.say("get 0 128 8");
     }
 }

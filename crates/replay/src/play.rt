@@ -2,6 +2,7 @@
 use replay_lines::command::Command;
 use replay_lines::command::command_of;
 use replay_lines::one::on_one;
+use replay_lines::one::on_size;
 use replay_lines::two::on_two;
 use replay_setting::records;
 use replay_state::say;
@@ -28,6 +29,7 @@ fn step(
             say::sum(out);
             state
         }
+        Command::Size => on_size(line, state, first, second, third, fourth),
         Command::Swap => on_two(line, state, first, second, third, fourth),
         _ => on_one(found, line, state, first, second, third, fourth, out),
     }

@@ -6,10 +6,13 @@ use replay_state::state::State;
 use replay_state::state::unknown;
 use script::field::field;
 use script::number::number_to;
+ghost use mathlib.Core.Path.{_≡_};
 ghost use Prim.Native.Nat.{_≤_};
 
 // On the bytes of a buffer that are in use.
-fn on_ring(command: Command, line: &[u8], state: State, ring: &mut [u8], out: &mut [u8]) -> State {
+fn on_ring(command: Command, line: &[u8], state: State, ring: &mut [u8], out: &mut [u8]) -> State
+    ensures { λ r. ⌜ r .lengths ≡ state .lengths ⌝ }
+{
     match command {
         Command::Put => memory::put(line, state, ring),
         Command::Get => memory::get(line, state, ring),
@@ -20,10 +23,7 @@ fn on_ring(command: Command, line: &[u8], state: State, ring: &mut [u8], out: &m
         Command::Create => replay_writing::create(line, state, ring),
         Command::Emit => replay_writing::emit(line, state, ring),
         Command::Emitlen => replay_writing::emitlen(line, state, ring),
-        Command::Inspect => {
-            replay_reading::inspect(ring);
-            state
-        }
+        Command::Inspect => replay_reading::inspect(state, ring),
         Command::Attach => replay_reading::attach(line, state, ring),
         Command::Read => replay_reading::read(line, state, ring, out),
         Command::Follow => replay_reading::follow(line, state, ring),
@@ -31,7 +31,7 @@ fn on_ring(command: Command, line: &[u8], state: State, ring: &mut [u8], out: &m
     }
 }
 
-// `size` alone has the whole buffer. No length is above the buffer's.
+// No length is above the buffer's.
 fn on_buffer(
     command: Command,
     line: &[u8],
@@ -41,10 +41,8 @@ fn on_buffer(
     out: &mut [u8],
 ) -> State
     requires { ⌜ b ≤ 3 ⌝ }
+    ensures { λ r. ⌜ r .lengths ≡ state .lengths ⌝ }
 {
-    if let Command::Size = command {
-        return memory::size(line, state, b, buffer);
-    }
     let length = state.lengths[b];
     if length > buffer.len() {
         return unknown(state);
@@ -61,12 +59,34 @@ pub fn on_one(
     third: &mut [u8],
     fourth: &mut [u8],
     out: &mut [u8],
-) -> State {
+) -> State
+    ensures { λ r. ⌜ r .lengths ≡ state .lengths ⌝ }
+{
     match number_to(field(line, 1), 3) {
         0 => on_buffer(command, line, state, 0, first, out),
         1 => on_buffer(command, line, state, 1, second, out),
         2 => on_buffer(command, line, state, 2, third, out),
         3 => on_buffer(command, line, state, 3, fourth, out),
+        _ => unknown(state),
+    }
+}
+
+// `size` alone has the whole buffer, and alone sets a length.
+pub fn on_size(
+    line: &[u8],
+    state: State,
+    first: &mut [u8],
+    second: &mut [u8],
+    third: &mut [u8],
+    fourth: &mut [u8],
+) -> State
+    ensures { λ r. ⌜ (r .writers ≡ state .writers) × (r .readers ≡ state .readers) ⌝ }
+{
+    match number_to(field(line, 1), 3) {
+        0 => memory::size(line, state, 0, first),
+        1 => memory::size(line, state, 1, second),
+        2 => memory::size(line, state, 2, third),
+        3 => memory::size(line, state, 3, fourth),
         _ => unknown(state),
     }
 }

@@ -12,7 +12,9 @@ use script::number::number_to;
 ghost use mathlib.Core.Path.{_≡_};
 ghost use Prim.Native.Nat.{_≤_};
 
-pub fn inspect(ring: &[u8]) {
+pub fn inspect(state: State, ring: &[u8]) -> State
+    ensures { λ next. ⌜ next ≡ state ⌝ }
+{
     match inspect::inspect(ring) {
         Inspected::Whole(summary) => {
             say::number(b"kept ", summary.count);
@@ -22,6 +24,7 @@ pub fn inspect(ring: &[u8]) {
         Inspected::Refused(refused) => say::refusal(refused),
     }
     say::words(b"\n");
+    state
 }
 
 // What attaching and following answer.

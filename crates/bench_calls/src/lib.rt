@@ -1,7 +1,7 @@
-// RULES 8.2: the firmware has no such calls. Reading and the swap as C can call them, for the measurement in bench/ alone.
+// RULES 8.2: the firmware has no such calls. Reading, the swap and the recording as C can call them, for the measurement in bench/ alone.
 // Records lie in bytes as the firmware's calls have them. What the firmware's calls have no number for gets one of this crate's own, 1,000 or above.
-use crate::reader_record::keep_reader;
-use crate::reader_record::reader_at;
+use crate::reader_bytes::keep_reader;
+use crate::reader_bytes::reader_at;
 use console::answer::emitted_number;
 use console::answer::refusal_number;
 use console::record_bytes::keep;
@@ -9,11 +9,14 @@ use console::record_bytes::read;
 use emit_rules::Emitted;
 use emit_rules::Outcome;
 use reader_rules::Reading;
+use recording_rules::Recorded;
 use table_rules::Refusal;
 ghost use mathlib.Core.Path.{_≡_};
-ghost use Rattle.bench_calls.specs.Calls.{answerNumber, readAnswer, sameOutcome, readCall, swapCall};
+ghost use Prim.Native.Nat.{ℕ, _≤_};
+ghost use Rattle.recording_rules.specs.declared.Recorded.the-variants.{Placed};
+ghost use Rattle.bench_calls.specs.Calls.{answerNumber, readAnswer, sameOutcome, recordedNumber, readCall, swapCall, recordCall};
 
-pub mod reader_record;
+pub mod reader_bytes;
 
 pub enum BenchAnswer {
     Event,
@@ -57,6 +60,17 @@ fn same_outcome(outcome: swap_rules::SwapOutcome) -> Outcome
     }
 }
 
+// The largest ring's recording has 1,048,608 bytes, so that the number fits.
+fn recorded_number(recorded: Recorded) -> u32
+    requires { ⌜ ((count : ℕ) → recorded ≡ Placed count → count ≤ 1048608) ⌝ }
+    ensures { λ r. ⌜ r ≡ recordedNumber recorded ⌝ }
+{
+    match recorded {
+        Recorded::Placed(count) => 2000 + (count as u32),
+        Recorded::Refused(refusal) => refusal_number(refusal),
+    }
+}
+
 #[no_mangle]
 pub extern "C" fn bench_read(ring: &[u8], record: &mut [u8], out: &mut [u8]) -> u32
     ensures answer { λ r. ⌜ r ≡ readCall (now (ring .entry)) (now («record» .entry)) (now (out .entry)) .answer ⌝ }
@@ -96,4 +110,13 @@ pub extern "C" fn bench_swap(old: &mut [u8], new: &mut [u8], record: &mut [u8]) 
         },
     );
     emitted_number(outcome)
+}
+
+#[no_mangle]
+pub extern "C" fn bench_record(ring: &[u8], placed: u64, out: &mut [u8]) -> u32
+    ensures answer { λ r. ⌜ r ≡ recordCall (now (ring .entry)) placed (now (out .entry)) .answer ⌝ }
+    ensures bytes { λ r. ⌜ now (out .exit) ≡ recordCall (now (ring .entry)) placed (now (out .entry)) .out ⌝ }
+{
+    let recorded = recording::record(ring, placed, out);
+    recorded_number(recorded)
 }

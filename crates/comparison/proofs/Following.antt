@@ -27,7 +27,7 @@ use Rattle.promise.proofs.Encoding.{encode-lengths}
 use Rattle.promise.proofs.Created.{created-holds}
 use Rattle.promise.proofs.Demand2.{same-calls}
 use Rattle.promise.proofs.Generation.{generation-stays}
-use Rattle.promise.proofs.OneRead.{recordOf, attaches}
+use Rattle.promise.proofs.Reading.{recordOf, attaches}
 use Rattle.comparison.specs.Emptying.{Watched, started, watchedEmission, Read, Empties, Emptied, emptying}
 use Rattle.comparison.proofs.NewlyAttached.{positive, empties}
 
@@ -78,7 +78,7 @@ module _ (cpu capacity : ℕ) where
     pub ended : Empties readOut (b .state .ring) (b .reader) (map (encode cpu) left) endOf
     ended =
         subst (λ (r : Reader). Empties readOut (b .state .ring) r (map (encode cpu) left) endOf) (sym (i .reader-is))
-        (empties cpu capacity (b .state .ring) (b .state .writer) (w .ring) (i .holds) left (w .reader) (a .following) refl)
+        (empties cpu capacity (b .state .ring) (b .state .writer) (w .ring) (i .holds) (w .reader) (a .following))
 
     pub longest : LongestRun (λ (x : Numbered Event). length (encode cpu x)) capacity (b .since) left
     longest =

@@ -16,7 +16,7 @@ use Rattle.history.proofs.Served.{Attended, done}
 use Rattle.promise.specs.Bytes.{Event, size, encode, madeBy, made, Turn, answerOf}
 use Rattle.promise.specs.Demand2.{NoneRefused}
 use Rattle.promise.proofs.Demand2.{turn-step}
-use Rattle.promise.proofs.OneRead.{recordOf}
+use Rattle.promise.proofs.Reading.{recordOf}
 use Rattle.comparison.specs.Emptying.{Watched}
 use Rattle.comparison.specs.Comparison.{turn, Step, Emission, Emptying, NoLess}
 use Rattle.comparison.proofs.NewlyAttached.{positive}

@@ -1,3 +1,4 @@
+pub mod UntilEmpty
 pub mod NewlyAttached
 pub mod Following
 pub mod Ends

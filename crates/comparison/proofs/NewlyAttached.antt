@@ -1,29 +1,33 @@
--- Reading bytes that hold a ring until EMPTY, from any place that a reader without bytes has come to; a newly attached one has all before it.
-use Prim.Native.Nat.{ℕ, suc, _+_, _<_}
+-- Reading bytes that hold a ring until EMPTY, from any place that a reader without bytes has come to: its unread events as bytes are what such a reader has
+-- before it (`until-empty`). A newly attached one has all before it.
+use Prim.Native.Nat.{ℕ, _+_, _<_}
 use native.Mathlib.Nat.{le-refl, zero-add}
 use native.Mathlib.Omega.{arith}
-use mathlib.Core.Path.{_≡_, sym, ap, subst, subst₂}
-use mathlib.Core.List.{List, [], _∷_, map}
-use lib.ListN.{length}
+use mathlib.Core.Path.{_≡_, refl, sym, ap, _∙_, subst, subst₂}
+use mathlib.Core.List.{List, map}
+use lib.ListN.{length, length-map}
 use Rattle.page_rules.specs.Page.{pageOf}
+use Rattle.event_rules.specs.Event.{sequence}
+use Rattle.event_rules.specs.Run.{Each}
 use Rattle.writer_rules.specs.declared.Writer.{Writer}
 use Rattle.reader_rules.specs.Reader.{readerWith}
 use Rattle.reader_rules.specs.Read.{readOut}
 use Rattle.reader_rules.specs.declared.Reader.{Reader}
 use Rattle.reader_rules.specs.declared.Attached.{Attached}
-use Rattle.run_rules.specs.Runs.{lastOf}
-use Rattle.history.specs.Ring.{sequenceOf, Numbered, Ring, write}
+use Rattle.run_rules.specs.Runs.{lastOf, total}
+use Rattle.run_rules.proofs.Runs.{total-append}
+use Rattle.history.specs.Ring.{sequenceOf, Numbered, Ring, bytes}
 use Rattle.history.proofs.IdealReading.{Place, attachAt, Following, unread}
-use Rattle.history.proofs.Reading.{from-lapped}
-use Rattle.history.proofs.Emptying.{past, finished, unread-past, following-past, attach-follows}
-use Rattle.promise.specs.Bytes.{Event, size, encode, consumed}
+use Rattle.history.proofs.Reading.{from-lapped, following-splits}
+use Rattle.history.proofs.Emptying.{finished, attach-follows}
+use Rattle.promise.specs.Bytes.{Event, size, encode}
 use Rattle.promise.specs.Holds.{Holds}
 use Rattle.promise.proofs.Opened.{sound-of}
-use Rattle.promise.proofs.Encoding.{encode-length}
-use Rattle.promise.proofs.Consumer.{consumed-holds}
-use Rattle.promise.proofs.Generation.{consumed-generation}
-use Rattle.promise.proofs.OneRead.{recordOf, attaches, read-none, read-one}
-use Rattle.comparison.specs.Emptying.{Consumer, Empties, NewlyAttached}
+use Rattle.promise.proofs.Encoding.{map-append, joined-length, encode-whole}
+use Rattle.promise.proofs.Holds.{holds-range, holds-whole}
+use Rattle.promise.proofs.Reading.{recordOf, attaches}
+use Rattle.comparison.specs.Emptying.{Empties, NewlyAttached}
+use Rattle.comparison.proofs.UntilEmpty.{until-empty}
 
 -- an event has a header
 pub positive : (e : Event) → 0 < size e
@@ -33,28 +37,31 @@ module _ (cpu capacity : ℕ) (s : List ℕ) (w : Writer) (ring : Ring Event) (h
   abbrev generation : ℕ
   generation = pageOf s .generation
 
-  -- whatever the consumer wrote
-  still : (consumer : Consumer) → Holds cpu capacity (consumed s (consumer .page)) w ring
-  still consumer = consumed-holds cpu capacity s (consumer .page) w ring (consumer .whole) h
-
-  -- one event at each read, and then EMPTY
-  pub empties : (u : List (Numbered Event)) (r : Place) → Following size ring r → unread size ring r ≡ u
-      → Empties readOut s (recordOf (pageOf s .generation) r) (map (encode cpu) u) (recordOf (pageOf s .generation) (finished size ring r u))
-  empties [] r f e =
-      λ consumer out.
-      read-none cpu capacity (consumed s (consumer .page)) w ring (still consumer) r f generation out e
-      (consumed-generation s (consumer .page) (consumer .whole) (sound-of h))
-  empties (x ∷ u) r f e =
-      let more : r .handed + 1 + length u ≡ r .handed + suc (length u) = omega arith in
-      let end : finished size ring (past size ring r x) u ≡ finished size ring r (x ∷ u) =
-      λ i. record { read-pos = write size ring; last = lastOf sequenceOf (x .sequence) u; handed = more i } in (
-        recordOf generation (past size ring r x),
-        λ consumer out room.
-            read-one cpu capacity (consumed s (consumer .page)) w ring (still consumer) r f generation out x u e
-            (omega (arith, encode-length cpu x)),
-        subst (λ (q : Place). Empties readOut s (recordOf generation (past size ring r x)) (map (encode cpu) u) (recordOf generation q)) end
-            (empties u (past size ring r x) (following-past size positive ring r x u f e) (unread-past size positive ring r x u f e)),
-      )
+  -- what is unread, one event at each read, and then EMPTY
+  pub empties : (r : Place) → Following size ring r → let u = unread size ring r in
+      Empties readOut s (recordOf (pageOf s .generation) r) (map (encode cpu) u) (recordOf (pageOf s .generation) (finished size ring r u))
+  empties r f =
+      let u : List (Numbered Event) = unread size ring r in
+      let here = following-splits size ring r f in
+      let sizes : total (bytes size) (ring .kept) ≡ total (bytes size) (here .0) + total (bytes size) u =
+      ap (total (bytes size)) (here .1) ∙ total-append (bytes size) (here .0) u in
+      let told = encode-whole cpu (h .narrow) (r .last) u (omega (arith, sizes, h .holding .fits, holds-range cpu capacity s w ring h)) (f .unseen)
+      (omega (arith, f .known, h .holding .spendable)) in
+      let count : r .handed + length (map (encode cpu) u) ≡ r .handed + length u = ap (λ (n : ℕ). r .handed + n) (length-map u (encode cpu)) in
+      let end : readerWith (pageOf s .«write_pos») (lastOf sequence (r .last) (map (encode cpu) u)) (r .handed + length (map (encode cpu) u)) generation
+      ≡ recordOf generation (finished size ring r u) =
+      λ i. readerWith (h .write-is i) (told .1 i) (count i) generation in
+      subst (λ (q : Reader). Empties readOut s (recordOf generation r) (map (encode cpu) u) q) end
+      (until-empty s (pageOf s) (sound-of h) (map (encode cpu) (ring .kept)) (h .bytes-are)
+      (subst (λ (n : ℕ). Each n (map (encode cpu) (ring .kept))) (sym (h .named)) (holds-whole cpu capacity s w ring h .0 .0))
+      (map (encode cpu) u) (recordOf generation r) (map (encode cpu) (here .0))
+      (record {
+        cut = ap (map (encode cpu)) (here .1) ∙ map-append (encode cpu) (here .0) u;
+        stands = omega (arith, here .2, h .tail-is, joined-length cpu (here .0));
+        right = record { counted = f .handed; behind = omega (arith, f .placed, h .write-is) };
+        rises = told .0 .1;
+        known = refl;
+      }))
 
 pub newly-attached : NewlyAttached
 newly-attached cpu capacity s w ring h any =
@@ -66,5 +73,7 @@ newly-attached cpu capacity s w ring h any =
     λ i. readerWith (sym (h .write-is) i) last (zero-add (length (ring .kept)) i) (pageOf s .generation) in (
       ap (λ (a : Attached). a .answer) here,
       subst₂ (λ (r e : Reader). Empties readOut s r (map (encode cpu) (ring .kept)) e) (sym (ap (λ (a : Attached). a .reader) here)) end
-          (empties cpu capacity s w ring h (ring .kept) (attachAt ring) (attach-follows size capacity ring (h .holding)) all),
+          (subst (λ (u : List (Numbered Event)). Empties readOut s (recordOf (pageOf s .generation) (attachAt ring)) (map (encode cpu) u)
+          (recordOf (pageOf s .generation) (finished size ring (attachAt ring) u)))
+          all (empties cpu capacity s w ring h (attachAt ring) (attach-follows size capacity ring (h .holding)))),
     )

@@ -2,11 +2,18 @@
 use libc::STDIN_FILENO;
 use libc::STDOUT_FILENO;
 use listing_text::listing;
+use refusal_text::Kind;
 
 fn main() {
     let mut input = [0u8; 40961];
     let n = io::read_full(STDIN_FILENO, &mut input);
     let mut out = [0u8; 131072];
-    let r = listing(&input[..n], &mut out);
-    io::write_all(STDOUT_FILENO, &out[..r]);
+    let replied = listing(&input[..n], &mut out);
+    let count = replied.count;
+    io::write_all(STDOUT_FILENO, &out[..count]);
+    let kind = replied.kind;
+    match kind {
+        Kind::Wanted => status::good(),
+        Kind::Reason => status::other(),
+    }
 }

@@ -16,6 +16,7 @@ use Rattle.reader_rules.specs.Attach.{attached}
 use Rattle.reader_rules.specs.Read.{readAt, readOpened, readOut}
 use Rattle.reader_rules.specs.declared.Reader.{Reader}
 use Rattle.follow_rules.specs.Follow.{onward, followRows, followedOn, followed}
+use Rattle.recording_rules.specs.Recording.{recordingOf, beyondEnd, recordingRows, recordedOn, recorded}
 use Rattle.looked_at.specs.LookedAt.{Agree}
 
 module _ {s t : List ℕ} (g : Agree s t) where
@@ -57,3 +58,11 @@ module _ {s t : List ℕ} (g : Agree s t) where
   pub followed-same : (reader : Reader) → followed t reader ≡ followed s reader
   unfolding onRing followed followedOn followRows onward damaged
   followed-same reader = rw (rows-same, page-same, surveyed-same (pageOf s), walked-same (pageOf s))
+
+  pub recording-same : recordingOf t ≡ recordingOf s
+  unfolding recordingOf
+  recording-same = rw (page-same, walked-same (pageOf s))
+
+  pub recorded-same : (placed : ℕ) (out : List ℕ) → recorded t placed out ≡ recorded s placed out
+  unfolding onRing recorded recordedOn recordingRows beyondEnd damaged
+  recorded-same placed out = rw (rows-same, page-same, surveyed-same (pageOf s), recording-same)

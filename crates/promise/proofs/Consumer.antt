@@ -8,6 +8,8 @@ use lib.Seq.{length-take-le, getD-take, getD-drop, getD-append-add}
 use Rattle.word_rules.specs.Number.{number}
 use Rattle.word_rules.proofs.Reading.{number-same, number-one}
 use Rattle.page_rules.specs.Page.{pageOf}
+use Rattle.page_rules.specs.declared.Page.{Page}
+use Rattle.page_rules.proofs.Facts.{Sound}
 use Rattle.page_rules.proofs.Sound.{opens-sound, sound-length}
 use Rattle.page_rules.proofs.Same.{page-same, sound-same}
 use Rattle.look_rules.proofs.Laws.{live-same}
@@ -27,6 +29,9 @@ module _ (s t : List ℕ) (same : Elsewhere s t) where
   pub elsewhere-page : pageOf t ≡ pageOf s
   elsewhere-page = page-same s t (same .long) (λ i l. same .below i (omega arith))
 
+  pub elsewhere-sound : (p : Page) → Sound s p → Sound t p
+  elsewhere-sound = sound-same s t (same .long) (λ i l. same .below i (omega arith))
+
   pub elsewhere-number : (at n : ℕ) → at + n ≤ 4096 → number t at n ≡ number s at n
   elsewhere-number at n low = number-same t s at at n (λ i l. same .below (at + i) (omega arith))
 
@@ -34,7 +39,7 @@ module _ (s t : List ℕ) (same : Elsewhere s t) where
   elsewhere-holds : (cpu capacity : ℕ) (w : Writer) (ring : Ring Event) → Holds cpu capacity s w ring → Holds cpu capacity t w ring
   elsewhere-holds cpu capacity w ring h = record {
     narrow = h .narrow;
-    opens = opens-sound _ _ (rw elsewhere-page (sound-same s t (same .long) (λ i l. same .below i (omega arith)) (pageOf s) (sound-of h)));
+    opens = opens-sound _ _ (rw elsewhere-page (elsewhere-sound (pageOf s) (sound-of h)));
     bytewise = λ i low. omega (arith, same .below i low, h .bytewise i low);
     named = rw elsewhere-page (h .named);
     sized = rw elsewhere-page (h .sized);
@@ -81,7 +86,15 @@ module _ (s page : List ℕ) (whole : length page ≡ 4096) (long : 8192 ≤ len
   pub consumed-wake : number (consumed s page) 4096 1 ≡ getD page 0 0
   consumed-wake = number-one (consumed s page) 4096 ∙ consumed-page 4096 (omega arith) (omega arith)
 
+-- of a ring that passes
+module _ (s : List ℕ) (p : Page) (h : Sound s p) (page : List ℕ) (whole : length page ≡ 4096) where
+  pub sound-elsewhere : Elsewhere s (consumed s page)
+  sound-elsewhere = consumed-elsewhere s page whole (omega (arith, sound-length s p h))
+
+  pub consumed-sound : Sound (consumed s page) p
+  consumed-sound = elsewhere-sound s (consumed s page) sound-elsewhere p h
+
 pub consumed-holds : (cpu capacity : ℕ) (s page : List ℕ) (w : Writer) (ring : Ring Event) → length page ≡ 4096
     → Holds cpu capacity s w ring → Holds cpu capacity (consumed s page) w ring
 consumed-holds cpu capacity s page w ring whole h =
-    elsewhere-holds s (consumed s page) (consumed-elsewhere s page whole (omega (arith, sound-length s (pageOf s) (sound-of h)))) cpu capacity w ring h
+    elsewhere-holds s (consumed s page) (sound-elsewhere s (pageOf s) (sound-of h) page whole) cpu capacity w ring h

@@ -13,14 +13,14 @@ use Rattle.history.specs.Ring.{Ring}
 use Rattle.promise.specs.Bytes.{Event, State, Turn, consumed, after}
 use Rattle.promise.specs.Holds.{Holds}
 use Rattle.promise.proofs.Opened.{sound-of}
-use Rattle.promise.proofs.Consumer.{elsewhere-page, consumed-elsewhere}
+use Rattle.promise.proofs.Consumer.{elsewhere-page, sound-elsewhere}
 use Rattle.promise.proofs.Layers.{layer-number, uncalled-number}
 use Rattle.promise.proofs.Demand2.{same-calls}
 
 pub consumed-generation : (s page : List ℕ) → length page ≡ 4096 → Sound s (pageOf s) → pageOf (consumed s page) .generation ≡ pageOf s .generation
 consumed-generation s page whole h =
     ap (λ (p : Page). p .generation)
-    (elsewhere-page s (consumed s page) (consumed-elsewhere s page whole (omega (arith, sound-length s (pageOf s) h))))
+    (elsewhere-page s (consumed s page) (sound-elsewhere s (pageOf s) h page whole))
 
 module _ (cpu capacity : ℕ) (s : State) (ring : Ring Event) (h : Holds cpu capacity (s .ring) (s .writer) ring) where
   -- so it stands through a history, whatever the consumer writes

@@ -12,7 +12,6 @@ pub mod Created
 pub mod Unrefused
 pub mod Decided
 pub mod Reading
-pub mod OneRead
 pub mod Only2
 pub mod WrongEmissions
 pub mod ShutOut2

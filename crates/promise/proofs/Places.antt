@@ -50,6 +50,9 @@ use Rattle.reader_rules.specs.declared.Attached.{Attached}
 use Rattle.reader_rules.specs.declared.Attachment.the-variants as attaches
 use Rattle.follow_rules.specs.Follow.{followRows, followedOn, followed}
 use Rattle.follow_rules.proofs.Cases as followCases
+use Rattle.recording_rules.specs.Recording.{AfterRecord, notRecorded, recordingRows, recordedOn, recorded}
+use Rattle.recording_rules.specs.declared.Recorded.the-variants as records
+use Rattle.recording_rules.proofs.Cases.{recorded-on}
 use Rattle.swap_rules.specs.Swap.{AfterSwap, swapRows, exchanging, carriedOver, exchangeOn, exchange}
 use Rattle.swap_rules.specs.Swap.{refuseSwap as swapRefuse}
 use Rattle.swap_rules.specs.declared.SwapOutcome.the-variants as swaps
@@ -157,6 +160,22 @@ module _ (s : List ℕ) (p : Page) (is : opened s ≡ opens.Page p) (at : ℕ) w
       never : (b : Bool) → exchanging b ≡ swaps.Refused (refusal.Damaged at) → ⊥
       never true q = differ (cc)
       never false q = differ (cc)
+
+  recording-row : (placed turn : ℕ) → Stops turn (recordingRows s p placed) (refusal.Damaged at) → Told
+  unfolding recordingRows
+  recording-row placed zero r = by-row (r .0) (r .1)
+  recording-row placed (suc zero) r = differ (cc (r .1 .1))
+  recording-row placed (suc (suc turn)) r = absurd (r .1 .1)
+
+  records-there : (placed : ℕ) (out : List ℕ) → recorded s placed out .answer ≡ records.Refused (refusal.Damaged at) → Told
+  unfolding recordedOn
+  records-there placed out e =
+      let row =
+      stopped records.Refused _ (recordingRows s p placed) (refusal.Damaged at) (λ r q. cc)
+      (λ q. differ (cc))
+      (sym (first-map (λ (a : AfterRecord). a .answer) (notRecorded out) _ (recordingRows s p placed))
+      ∙ sym (ap (λ (a : AfterRecord). a .answer) (recorded-on s placed out p h)) ∙ e) in
+      recording-row placed (row .0) (row .1)
 
   follow-row : (reader : Reader) (turn : ℕ) → Stops turn (followRows s p reader) (refusal.Damaged at) → Told
   unfolding followRows
@@ -310,6 +329,7 @@ places s p is at = record {
   inspect = (stopping s p is at, stopped-there s p is at);
   swap = swaps-there s p is at;
   follow = follows-there s p is at;
+  recording = records-there s p is at;
   emit = λ w label payload. (
     λ e. let r = emit-stuck s p is at w label payload e in (r .0, r .1, r .2, r .3, omega (arith, r .4), r .5),
     λ r. emits-there s p is at w label payload (r .0, r .1, r .2, r .3, omega (arith, r .4), r .5),

@@ -1,34 +1,79 @@
--- Reading bytes that hold a ring: from the reader's place on they are its event's and then the later ones' (`rest-is`), so that event is found, or the end.
+-- Reading where an event stands at the reader's place (`reads-front`). On bytes that hold a ring they are from there on that event's and then the later
+-- ones' (`rest-is`), or there is none.
 use Prim.Native.Nat.{ℕ, _+_, _^_, _≤_, _<_}
 use native.Mathlib.Omega.{arith}
-use mathlib.Core.Path.{_≡_, sym, ap, ap₂, _∙_, subst}
-use mathlib.Core.Bool.{true}
+use mathlib.Core.Path.{_≡_, sym, ap, _∙_, subst}
 use mathlib.Core.List.{List, _∷_, _++_, map}
-use lib.ListN.{length, take, drop}
+use lib.ListN.{length, take, drop, length-append}
 use lib.Seq.{take-at, drop-at}
 use Rattle.page_rules.specs.Page.{pageOf}
 use Rattle.page_rules.specs.declared.Page.{Page}
+use Rattle.page_rules.proofs.Facts.{Sound}
 use Rattle.region_rules.specs.Region.{bytesAt}
 use Rattle.event_rules.specs.Event.{eventSize, sequence, wellFormed}
 use Rattle.event_rules.specs.Run.{joined, One, Each}
 use Rattle.event_rules.proofs.Wholes.{each-parts}
-use Rattle.event_rules.proofs.Front.{size-front, sequence-front, well-front, take-front, joined-append}
+use Rattle.event_rules.proofs.Front.{one-long, size-front, sequence-front, well-front, take-front, joined-append}
 use Rattle.look_rules.specs.Live.{rest, live}
-use Rattle.look_rules.proofs.Laws.{rest-drop, rest-take}
+use Rattle.look_rules.proofs.Laws.{rest-length, rest-drop, rest-take}
 use Rattle.writer_rules.specs.declared.Writer.{Writer}
-use Rattle.reader_rules.specs.Reader.{movedTo, handedOne}
+use Rattle.reader_rules.specs.Reader.{readerWith, movedTo, handedOne}
+use Rattle.reader_rules.specs.Attach.{attached}
 use Rattle.reader_rules.specs.Read.{readingPlace, handedOut, readOut}
 use Rattle.reader_rules.specs.declared.Reader.{Reader}
+use Rattle.reader_rules.specs.declared.Attachment.the-variants as attachment
 use Rattle.reader_rules.specs.declared.Reading.the-variants as reading
+use Rattle.reader_rules.proofs.Facts.{Right}
+use Rattle.reader_rules.proofs.Attaching.{attach-done}
+use Rattle.reader_rules.proofs.Life.{says-with, attached-says}
 use Rattle.reader_rules.proofs.Cases.{read-empty, read-event}
 use Rattle.run_rules.specs.Runs.{total}
 use Rattle.history.specs.Ring.{Numbered, Ring, bytes, write}
+use Rattle.history.proofs.IdealReading.{Place, attachAt}
 use Rattle.run_rules.proofs.Runs.{total-append}
 use Rattle.promise.specs.Bytes.{Event, size, encode}
 use Rattle.promise.specs.Holds.{Holds}
 use Rattle.promise.proofs.Opened.{sound-of}
 use Rattle.promise.proofs.Encoding.{map-append, encode-length, encode-sequence, joined-length}
 use Rattle.promise.proofs.Holds.{holds-range, holds-whole}
+
+-- an event stands at the reader's place, and other bytes behind it
+pub reads-front : (s : List ℕ) (p : Page) → Sound s p → (reader : Reader) → Right p reader → (event more : List ℕ) → One (p .«cpu_id») event
+    → rest s p (readingPlace p reader) ≡ event ++ more → reader .last < sequence event → (out : List ℕ) → length event ≤ length out
+    → readOut s reader out ≡ record {
+      answered = record {
+        answer = reading.Event (length event);
+        reader = handedOne (readingPlace p reader + length event) (sequence event) reader;
+      };
+      out = event ++ drop (length event) out;
+    }
+reads-front s p sound reader right event more one there above out room =
+    let at : ℕ = readingPlace p reader in
+    let size : eventSize (event ++ more) ≡ length event = size-front (p .«cpu_id») event one more in
+    let number : sequence (event ++ more) ≡ sequence event = sequence-front (p .«cpu_id») event one more in
+    let bytes : take (eventSize (event ++ more)) (event ++ more) ≡ event = take-front (p .«cpu_id») event one more in
+    let below : at < p .«write_pos» =
+    omega (arith, rest-length s p at, ap length there, length-append event more, one-long (p .«cpu_id») event one more) in
+    read-event s reader out p sound right below
+    (ap (wellFormed (p .«cpu_id»)) there ∙ well-front (p .«cpu_id») event one more)
+    (omega (arith, above, ap sequence there, number))
+    (omega (arith, room, ap eventSize there, size))
+    ∙ ap (handedOut reader out at) there
+    ∙ (λ i. record {
+      answered = record { answer = reading.Event (size i); reader = handedOne (at + size i) (number i) reader };
+      out = bytes i ++ drop (size i) out;
+    })
+
+-- the record of a reader of the ring without bytes, with a generation
+abbrev pub recordOf : ℕ → Place → Reader
+recordOf generation r = readerWith (r .read-pos) (r .last) (r .handed) generation
+
+pub attaches : (cpu capacity : ℕ) (s : List ℕ) (w : Writer) (ring : Ring Event) → Holds cpu capacity s w ring → (any : Reader)
+    → attached s any ≡ record { answer = attachment.Done; reader = recordOf (pageOf s .generation) (attachAt ring) }
+attaches cpu capacity s w ring h any =
+    attach-done s any (pageOf s) (sound-of h)
+    ∙ ap (λ (r : Reader). record { answer = attachment.Done; reader = r })
+    (says-with (attached-says (pageOf s)) ∙ ap (λ (tail : ℕ). readerWith tail 0 0 (pageOf s .generation)) (h .tail-is))
 
 module _ (cpu capacity : ℕ) (s : List ℕ) (w : Writer) (ring : Ring Event) (h : Holds cpu capacity s w ring) where
   abbrev p : Page
@@ -77,44 +122,28 @@ module _ (cpu capacity : ℕ) (s : List ℕ) (w : Writer) (ring : Ring Event) (h
         subst (Each cpu) (ap (map (encode cpu)) cut ∙ map-append (encode cpu) front (x ∷ more)) (holds-whole cpu capacity s w ring h .0 .0) in
         each-parts cpu (map (encode cpu) front) (map (encode cpu) (x ∷ more)) each .1 .0
 
-    size-is : eventSize (rest s p at) ≡ size (x .event)
-    size-is = ap eventSize rest-is ∙ size-front cpu (encode cpu x) whole (joined (map (encode cpu) more)) ∙ encode-length cpu x
-
-    module _ (known : x .sequence < 2 ^ 64) where
-      sequence-is : sequence (rest s p at) ≡ x .sequence
-      sequence-is =
-          ap sequence rest-is ∙ sequence-front cpu (encode cpu x) whole (joined (map (encode cpu) more))
-          ∙ encode-sequence cpu (h .narrow) x (omega (arith, sizes, h .holding .fits, holds-range cpu capacity s w ring h)) known
-
-      -- what a reader at its place is handed
-      pub reads-event : (reader : Reader) (out : List ℕ) → readingPlace p reader ≡ at → reader .«read_pos» ≤ write size ring → reader .handed ≤ reader .last
-          → reader .last < x .sequence → size (x .event) ≤ length out
-          → readOut s reader out
-          ≡ record {
-            answered = record {
-              answer = reading.Event (size (x .event));
-              reader = handedOne (at + size (x .event)) (x .sequence) reader;
-            };
-            out = encode cpu x ++ drop (size (x .event)) out;
-          }
-      reads-event reader out stands behind counted above long =
-          let here : readingPlace p reader ≡ at = stands in
-          let well : wellFormed (p .«cpu_id») (rest s p (readingPlace p reader)) ≡ true =
-          ap₂ (λ (n : ℕ) (bs : List ℕ). wellFormed n bs) (h .named) (ap (rest s p) here ∙ rest-is)
-          ∙ well-front cpu (encode cpu x) whole (joined (map (encode cpu) more)) in
-          let above-it : reader .last < sequence (rest s p (readingPlace p reader)) =
-          omega (arith, above, ap (λ (k : ℕ). sequence (rest s p k)) here, sequence-is) in
-          let room : eventSize (rest s p (readingPlace p reader)) ≤ length out = omega (arith, long, ap (λ (k : ℕ). eventSize (rest s p k)) here, size-is) in
-          let front-is : take (eventSize (rest s p at)) (rest s p at) ≡ encode cpu x =
-          ap (λ (bs : List ℕ). take (eventSize bs) bs) rest-is ∙ take-front cpu (encode cpu x) whole (joined (map (encode cpu) more)) in
-          read-event s reader out p (sound-of h)
-          (record { counted = counted; behind = omega (arith, behind, h .write-is) })
-          (omega (arith, here, h .write-is, sizes)) well above-it room
-          ∙ ap (λ (k : ℕ). handedOut reader out k (rest s p k)) here
-          ∙ (λ i. record {
-            answered = record {
-              answer = reading.Event (size-is i);
-              reader = handedOne (at + size-is i) (sequence-is i) reader;
-            };
-            out = front-is i ++ drop (size-is i) out;
-          })
+    -- what a reader at its place is handed
+    pub reads-event : x .sequence < 2 ^ 64 → (reader : Reader) (out : List ℕ) → readingPlace p reader ≡ at → reader .«read_pos» ≤ write size ring
+        → reader .handed ≤ reader .last → reader .last < x .sequence → size (x .event) ≤ length out
+        → readOut s reader out
+        ≡ record {
+          answered = record {
+            answer = reading.Event (size (x .event));
+            reader = handedOne (at + size (x .event)) (x .sequence) reader;
+          };
+          out = encode cpu x ++ drop (size (x .event)) out;
+        }
+    reads-event known reader out stands behind counted above long =
+        let number : sequence (encode cpu x) ≡ x .sequence =
+        encode-sequence cpu (h .narrow) x (omega (arith, sizes, h .holding .fits, holds-range cpu capacity s w ring h)) known in
+        let bytes : length (encode cpu x) ≡ size (x .event) = encode-length cpu x in
+        reads-front s p (sound-of h) reader (record { counted = counted; behind = omega (arith, behind, h .write-is) })
+        (encode cpu x) (joined (map (encode cpu) more)) (subst (λ (n : ℕ). One n (encode cpu x)) (sym (h .named)) whole)
+        (ap (rest s p) stands ∙ rest-is) (omega (arith, above, number)) out (omega (arith, long, bytes))
+        ∙ (λ i. record {
+          answered = record {
+            answer = reading.Event (bytes i);
+            reader = handedOne (stands i + bytes i) (number i) reader;
+          };
+          out = encode cpu x ++ drop (bytes i) out;
+        })

@@ -14,6 +14,7 @@ use Rattle.reader_rules.specs.{Read.readingPlace, Read.readOut, declared.Reader
 use Rattle.reader_rules.specs.declared.{Reading.the-variants.Refused as readsRefused, Attachment.the-variants.Refused as attachesRefused}
 use Rattle.follow_rules.specs.{Follow.followed}
 use Rattle.swap_rules.specs.{Swap.exchange, declared.SwapOutcome.the-variants.Refused as swapsRefused}
+use Rattle.recording_rules.specs.{Recording.recorded, declared.Recorded.the-variants.Refused as recordsRefused}
 use Rattle.promise.specs.{Demand2.Acceptable}
 
 -- well-formed events lie from tail up to a place below write_pos
@@ -27,9 +28,10 @@ pub record PlaceOf (s : List ℕ) (p : Page) (at : ℕ) : Type 0 where
   pub inspect : (inspected s ≡ inspectsRefused (Damaged at))
       ↔ ((events : List (List ℕ)) × UpTo s p events at × Rising sequence 0 events
       × (passable (p .«cpu_id») (lastOf sequence 0 events) (rest s p at) ≡ false))
-  -- 7.8, 7.6: by a whole inspection
+  -- 7.8, 7.6, 10.4: by a whole inspection
   pub swap : (t : List ℕ) (w : Writer) → exchange s t w .answer .outcome ≡ swapsRefused (Damaged at) → inspected s ≡ inspectsRefused (Damaged at)
   pub follow : (reader : Reader) → followed s reader .answer ≡ attachesRefused (Damaged at) → inspected s ≡ inspectsRefused (Damaged at)
+  pub recording : (placed : ℕ) (out : List ℕ) → recorded s placed out .answer ≡ recordsRefused (Damaged at) → inspected s ≡ inspectsRefused (Damaged at)
   -- 6.5: the walk comes to the place with still too little room, and no sequence counts
   pub emit : (w : Writer) (label : Label) (payload : List ℕ) → (emission s w label payload .answer .outcome ≡ emitsRefused (Damaged at))
       ↔ ((wrongWriter w ≡ false) × Acceptable (p .capacity) (w .last) (p .«write_pos») (32 + length payload)

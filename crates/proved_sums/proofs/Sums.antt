@@ -27,8 +27,7 @@ use Rattle.promise.specs.Holds.{Holds}
 use Rattle.promise.proofs.Opened.{sound-of}
 use Rattle.promise.specs.Swaps.{swap, swapped}
 use Rattle.promise.proofs.Swaps.{swapped-holds, new-generation, old-generation}
-use Rattle.promise.proofs.Reading.{event-at, reads-event, reads-empty}
-use Rattle.promise.proofs.OneRead.{attaches as attach-held}
+use Rattle.promise.proofs.Reading.{attaches as attach-held, event-at, reads-event, reads-empty}
 use Rattle.promise.proofs.Encoding.{encode-length}
 use Rattle.proved_sums.specs.Lives.{cut, paid, lived, Shows}
 use Rattle.proved_sums.specs.Sums.{one, two, three, four, five, ten, counted, standing, answering, Reads, numberedBytes, AllSums}

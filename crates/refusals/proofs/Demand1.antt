@@ -44,6 +44,8 @@ use Rattle.follow_rules.specs.Follow.{followRows, followedOn, followed}
 use Rattle.swap_rules.specs.Swap.{AfterSwap, refuseSwap, exchanging, swapRows, carriedOver, exchangeOn, exchange}
 use Rattle.swap_rules.specs.declared.SwapOutcome.{SwapOutcome}
 use Rattle.swap_rules.specs.declared.SwapOutcome.the-variants as swaps
+use Rattle.recording_rules.specs.Recording.{AfterRecord, notRecorded, beyondEnd, recordingRows, recordedOn, recorded}
+use Rattle.recording_rules.specs.declared.Recorded.{Recorded}
 use Rattle.console_rules.specs.Console.{createdNumber, inspectedNumber, emittedNumber, isRefused, recordOf, recordAfter}
 use Rattle.console_rules.specs.Console.{Called, refusedCall, recordRows, emitCall}
 use Rattle.refusals.specs.Demand1.{Asked, walkTable, badPlace, emitTable, inspectTable, Demand1}
@@ -181,7 +183,8 @@ exchanged true = refl
 exchanged false = refl
 
 pub demand1 : Demand1
-unfolding onRing attached readOut readOpened ending readAt eventRows followed followedOn followRows exchange exchangeOn swapRows carriedOver pageRows emitCall recordRows recordAfter
+unfolding onRing attached readOut readOpened ending readAt eventRows followed followedOn followRows exchange exchangeOn swapRows carriedOver
+    recorded recordedOn recordingRows beyondEnd pageRows emitCall recordRows recordAfter
 demand1 =
     record {
       create = create-asked (λ x. x) (λ r e. let z : _≡_ {A = ℕ} 0 1 = cc in omega arith);
@@ -223,6 +226,13 @@ demand1 =
           (asks o (swapRows s (pageOf s) t w)
           (either o (wakes (needWake s)) (exchanged (wakes (needWake s))) (λ r e. let z : _≡_ {A = ℕ} 0 1 = cc in omega arith)
           (λ r e. let z : _≡_ {A = ℕ} 0 1 = cc in omega arith))));
+      recording =
+          λ s placed out.
+          let o : Outcomes AfterRecord Recorded =
+          record { answer = λ x. x .answer; refuse = notRecorded out; as-came = λ x. x .out ≡ out; keep = λ r. refl } in
+          asked o
+          (asks o (pageRows s)
+          (asks o (recordingRows s (pageOf s) placed) (says o refl (λ r e. let z : _≡_ {A = ℕ} 0 1 = cc in omega arith))));
       create-call = create-asked createdNumber (free 0 (λ e. omega arith));
       emit-call =
           λ s bytes timestamp type class payload.

@@ -1,4 +1,4 @@
--- RULES 5.1, 5.2, 6.3: demand 1, of any bytes and any numbers: a refusal comes in its turn, where its condition holds and nowhere else, and changes
+-- RULES 5.1, 5.2, 6.3, 10.4: demand 1, of any bytes and any numbers: a refusal comes in its turn, where its condition holds and nowhere else, and changes
 -- nothing. A table holds an operation's questions in their order, each with its answer, and in the last row what is left to answer.
 use Prim.Native.Nat.{ℕ, _+_, _-_, _^_}
 use mathlib.Core.{Path._≡_, Logic._↔_, Bool.Bool, Bool.true, Bool.not, Bool._&&_, List.List, List.[], List._∷_, List._++_}
@@ -21,6 +21,8 @@ use Rattle.reader_rules.specs.declared.Reading.the-variants as reads
 use Rattle.follow_rules.specs.{Follow.followed}
 use Rattle.swap_rules.specs.{Swap.lastGeneration, Swap.countDiffers, Swap.exchange}
 use Rattle.swap_rules.specs.declared.SwapOutcome.the-variants as swaps
+use Rattle.recording_rules.specs.{Recording.recordingOf, Recording.piece, Recording.recorded}
+use Rattle.recording_rules.specs.declared.Recorded.the-variants as records
 use Rattle.console_rules.specs.{Console.createdNumber, Console.inspectedNumber, Console.recordOf, Console.emitCall}
 
 -- of a call: `refused` is its answer to a refusal, 10 bearing `place`; `unchanged` says that all it was lent to change is as it came
@@ -105,6 +107,15 @@ pub record Demand1 : Type 0 where
       ++ ((wrongWriter w, refusal 7) ∷ (wrongSize t, refusal 16) ∷ (lastGeneration p, refusal 15) ∷ (damaged s p, refusal 10)
       ∷ (countDiffers s p w, refusal 11) ∷ (wakes (needWake s), swaps.Wake) ∷ (true, swaps.Done) ∷ []))
       (after .answer .outcome) ((after .old ≡ s) × (after .new ≡ t) × (after .answer .writer ≡ w))
+  pub recording : (s : List ℕ) (placed : ℕ) (out : List ℕ)
+      → let p = pageOf s in
+      let after = recorded s placed out in
+      Asked records.Refused (surveyed s p .stop)
+      (λ refusal.
+      pageTable s refusal
+      ++ ((damaged s p, refusal 10) ∷ (ltb (length (recordingOf s)) placed, refusal 13)
+      ∷ (true, records.Placed (length (piece (recordingOf s) placed (length out)))) ∷ []))
+      (after .answer) (after .out ≡ out)
   -- the calls of C, answered by number
   pub create-call : (cpu : ℕ) (s : List ℕ)
       → Asked paperNumber 0 (λ refusal. (wrongSize s, refusal 16) ∷ (true, 0) ∷ []) (createdNumber (created s)) (afterCreate cpu s ≡ s)

@@ -11,6 +11,7 @@ fn main() {
     let n = io::read_full(0, &mut script);
     if n > 1048576 {
         words(b"too long\n");
+        status::other();
         return;
     }
     let mut first = buffer_room();
@@ -26,4 +27,5 @@ fn main() {
         &mut fourth,
         &mut out,
     );
+    status::good();
 }

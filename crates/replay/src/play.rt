@@ -1,14 +1,14 @@
 // The lines of a script in order.
-use replay_lines::command::Command;
-use replay_lines::command::command_of;
-use replay_lines::one::on_one;
-use replay_lines::one::on_size;
-use replay_lines::two::on_two;
+use replay_one::on_one;
+use replay_one::on_size;
 use replay_setting::records;
 use replay_state::say;
 use replay_state::state::State;
 use replay_state::state::fresh;
 use replay_state::state::unknown;
+use replay_two::on_two;
+use replay_words::Command;
+use replay_words::command_of;
 use script::field::seek;
 
 fn step(

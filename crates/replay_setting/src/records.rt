@@ -1,5 +1,5 @@
 // The commands that set records: any numbers are taken.
-use reader::record::reader_with;
+use reader_record::reader_with;
 use replay_state::say::words;
 use replay_state::state::State;
 use replay_state::state::unknown;

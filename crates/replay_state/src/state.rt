@@ -1,6 +1,6 @@
 // What a script plays on beside the bytes of its buffers.
 use crate::say::words;
-use reader::record::reader_with;
+use reader_record::reader_with;
 use reader_rules::Reader;
 use writer::zeros;
 use writer_rules::Writer;

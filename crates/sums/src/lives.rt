@@ -6,7 +6,7 @@ use emit_rules::Emitted;
 use emit_rules::Label;
 use reader::attach::attach;
 use reader::read::read;
-use reader::record::reader_with;
+use reader_record::reader_with;
 use reader_rules::Reader;
 use reader_rules::Reading;
 use swap::swap;

@@ -10,4 +10,5 @@ fn main() {
     lives::two_capacities();
     refusals::counter_at_its_end();
     refusals::lengths();
+    status::good();
 }

@@ -27,7 +27,9 @@ use Rattle.reader_rules.specs.Attach.{attached}
 use Rattle.reader_rules.specs.Read.{ending, eventRows, readAt, readOpened, readOut}
 use Rattle.swap_rules.specs.Swap.{lastGeneration, countDiffers, swapRows, newRing}
 use Rattle.swap_rules.specs.Swap.{retired, carriedOver, exchangeOn, exchange}
-use Rattle.worked_bytes.specs.Worked.{pageBytes, laid, headerBytes, WorkedPages, WorkedEmissions, WorkedReads, WorkedSwaps, Worked}
+use Rattle.format_rules.specs.Format.{opening, closing, recording}
+use Rattle.recording_rules.specs.Recording.{recordingOf, beyondEnd, recordingRows, recordedOn, recorded}
+use Rattle.worked_bytes.specs.Worked.{pageBytes, laid, headerBytes, WorkedPages, WorkedEmissions, WorkedReads, WorkedSwaps, WorkedRecordings, Worked}
 
 pages : WorkedPages
 unfolding onRing opened pageRows pageOf tooShort differs wrongMark wrongVersion wrongLayout filled spoiled wrongLength wrongPosition
@@ -66,5 +68,16 @@ swaps : WorkedSwaps
 unfolding emissions exchange exchangeOn swapRows lastGeneration damaged countDiffers outstanding carriedOver someDiscarded older latest newRing retired
 swaps = record { unwatched = refl; watched = refl; watched-255 = refl }
 
+recordings : WorkedRecordings
+unfolding reads recorded recordedOn recordingRows beyondEnd recordingOf recording opening closing
+recordings =
+    record {
+      of-none = refl;
+      wrapped = refl;
+      between = refl;
+      above-the-end = refl;
+      damaged-first = refl;
+    }
+
 pub worked : Worked
-worked = record { pages = pages; emissions = emissions; reads = reads; swaps = swaps }
+worked = record { pages = pages; emissions = emissions; reads = reads; swaps = swaps; recordings = recordings }

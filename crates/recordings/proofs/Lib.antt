@@ -1,0 +1,4 @@
+pub mod Consumed
+pub mod NewReader
+pub mod OneRing
+pub mod MissedFresh

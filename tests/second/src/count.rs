@@ -31,7 +31,16 @@ fn stored_counts(folder: &Path) -> Result<Counts, String> {
     Ok(counts)
 }
 
-pub fn scripts(folder: &Path) -> Result<Vec<std::path::PathBuf>, String> {
+/// What `add` makes of the stored scripts, one after the other.
+pub fn gathered<Counts: Default>(folder: &Path, add: impl Fn(&mut Counts, &[u8])) -> Result<Counts, String> {
+    let mut counts = Counts::default();
+    for path in scripts(folder)? {
+        add(&mut counts, &fs::read(&path).map_err(|error| error.to_string())?);
+    }
+    Ok(counts)
+}
+
+fn scripts(folder: &Path) -> Result<Vec<std::path::PathBuf>, String> {
     let entries = fs::read_dir(folder).map_err(|error| error.to_string())?;
     let mut paths: Vec<_> = entries.filter_map(|entry| entry.ok().map(|entry| entry.path())).collect();
     paths.retain(|path| path.extension().is_some_and(|extension| extension == "script"));

@@ -1,11 +1,10 @@
 //! How often need_wake has each of some values when an event is accepted, a swap carried out or an event dropped, and how often
 //! futex_counter is at its highest then. The answers don't tell, so the scripts are played.
 
-use crate::count::{scripts, word};
+use crate::count::{gathered, word};
 use crate::script::Machine;
 use crate::stored::lines;
 use std::collections::BTreeMap;
-use std::fs;
 use std::path::Path;
 
 const FLAGS: [u8; 7] = [0, 1, 2, 127, 128, 254, 255];
@@ -27,7 +26,7 @@ struct Times {
 type Counts = BTreeMap<(Call, u8), Times>;
 
 pub fn print(folder: &Path) -> Result<(), String> {
-    let counts = stored_counts(folder)?;
+    let counts = gathered(folder, add)?;
     println!("\nneed_wake: call times (of these with futex_counter at 2^32 - 1), ..");
     for flag in FLAGS {
         println!("{flag:>3}: {}", CALLS.map(|call| shown(&counts, call, flag)).join(", "));
@@ -42,15 +41,6 @@ fn shown(counts: &Counts, call: Call, flag: u8) -> String {
 
 fn times(counts: &Counts, call: Call, flag: u8) -> Times {
     counts.get(&(call, flag)).copied().unwrap_or_default()
-}
-
-fn stored_counts(folder: &Path) -> Result<Counts, String> {
-    let mut counts = Counts::new();
-    for path in scripts(folder)? {
-        let script = fs::read(&path).map_err(|error| error.to_string())?;
-        add(&mut counts, &script);
-    }
-    Ok(counts)
 }
 
 /// A rest that no newline ends is no command, so it isn't played.
@@ -90,7 +80,7 @@ mod tests {
 
     #[test]
     fn each_flag_is_stored_often() {
-        let counts = stored_counts(Path::new("stored")).unwrap();
+        let counts = gathered(Path::new("stored"), add).unwrap();
         for flag in FLAGS {
             for call in CALLS {
                 let Times { all, at_highest } = times(&counts, call, flag);

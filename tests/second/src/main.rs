@@ -1,6 +1,7 @@
 //! The second implementation: what `replay` must answer, and scripts to ask it.
 
 mod count;
+mod count_recordings;
 mod count_wakes;
 mod generate;
 mod ring;
@@ -25,7 +26,7 @@ fn main() -> ExitCode {
         ["answer"] => answer_input(),
         ["generate", folder] => stored::write(Path::new(folder)),
         ["check", folder] => stored::check(Path::new(folder)),
-        ["count", folder] => count::print(Path::new(folder)).and_then(|()| count_wakes::print(Path::new(folder))),
+        ["count", folder] => count(Path::new(folder)),
         _ => Err(USAGE.to_string()),
     };
     match outcome {
@@ -35,6 +36,12 @@ fn main() -> ExitCode {
             ExitCode::FAILURE
         }
     }
+}
+
+fn count(folder: &Path) -> Result<(), String> {
+    count::print(folder)?;
+    count_wakes::print(folder)?;
+    count_recordings::print(folder)
 }
 
 /// One byte above the longest script tells that it is too long; the rest need not be held.

@@ -7,6 +7,7 @@ mod life;
 mod mixed;
 mod pen;
 mod random;
+mod recordings;
 mod sketch;
 
 use pen::Pen;
@@ -16,8 +17,13 @@ type Kind = (&'static str, u64, fn(&mut Pen));
 
 /// Name and script of each of the stored set.
 pub fn scripts() -> Vec<(&'static str, Vec<u8>)> {
-    let kinds: [Kind; 4] =
-        [("life", 101, life::write), ("damage", 202, damage::write), ("edges", 303, edges::write), ("mixed", 404, mixed::write)];
+    let kinds: [Kind; 5] = [
+        ("life", 101, life::write),
+        ("damage", 202, damage::write),
+        ("edges", 303, edges::write),
+        ("mixed", 404, mixed::write),
+        ("recordings", 505, recordings::write),
+    ];
     kinds.into_iter().map(|(name, seed, write)| (name, written(seed, write))).collect()
 }
 

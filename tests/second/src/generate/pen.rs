@@ -59,6 +59,10 @@ impl Pen {
         self.say(format!("read {buffer} {reader} {lent}"))
     }
 
+    pub fn record(&mut self, buffer: usize, placed: u64, lent: u64) -> String {
+        self.say(format!("record {buffer} {placed} {lent}"))
+    }
+
     pub fn sum(&mut self, buffer: usize) {
         self.say(format!("sum {buffer}"));
     }

@@ -19,6 +19,7 @@ pub enum Command {
     Read { buffer: usize, reader: usize, lent: usize },
     Follow { buffer: usize, reader: usize },
     Swap { from: usize, to: usize, writer: usize },
+    Record { buffer: usize, placed: u64, lent: usize },
 }
 
 pub fn parse(line: &[u8]) -> Option<Command> {
@@ -67,6 +68,7 @@ fn ring_command(word: &[u8], rest: &[&[u8]]) -> Option<Command> {
         (b"read", [b, r, n]) => Command::Read { buffer: index(b)?, reader: index(r)?, lent: length(n)? },
         (b"follow", [b, r]) => Command::Follow { buffer: index(b)?, reader: index(r)? },
         (b"swap", [b, c, w]) if b != c => Command::Swap { from: index(b)?, to: index(c)?, writer: index(w)? },
+        (b"record", [b, placed, n]) => Command::Record { buffer: index(b)?, placed: number(placed)?, lent: length(n)? },
         _ => return None,
     })
 }

@@ -57,6 +57,7 @@ impl Machine {
             Command::Read { buffer, reader, lent } => self.read(buffer, reader, lent),
             Command::Follow { buffer, reader } => self.follow(buffer, reader),
             Command::Swap { from, to, writer } => self.swap(from, to, writer),
+            Command::Record { buffer, placed, lent } => self.record(buffer, placed, lent),
         }
     }
 
@@ -153,6 +154,11 @@ impl Machine {
             }
         });
         said(answer) + &self.writer_record(writer)
+    }
+
+    fn record(&mut self, buffer: usize, placed: u64, lent: usize) -> String {
+        let outcome = ring::record(&self.buffers[buffer], placed, &mut self.output[..lent]);
+        said(outcome.map(|count| format!("placed {count} bytes {}", hex(&self.output[..count]))))
     }
 
     fn writer_record(&self, writer: usize) -> String {

@@ -46,8 +46,8 @@ fn stretches_that_pass_2_64_are_outside() {
 
 #[test]
 fn fields_above_their_highest_are_wrong() {
-    let script = "sum 4\ncreate 0 65536\nemit 0 0 1 4294967296 1 -\nemit 0 0 1 1 256 -\nemitlen 0 0 1 1 1 40961\nread 0 0 40961\nswap 1 1 0\n";
-    assert_eq!(answers(script), "unknown\n".repeat(7));
+    let script = "sum 4\ncreate 0 65536\nemit 0 0 1 4294967296 1 -\nemit 0 0 1 1 256 -\nemitlen 0 0 1 1 1 40961\nread 0 0 40961\nswap 1 1 0\nrecord 0 0 40961\n";
+    assert_eq!(answers(script), "unknown\n".repeat(8));
 }
 
 #[test]
@@ -58,4 +58,23 @@ fn records_are_handed_back_and_kept() {
         "ok\ndone\ndone writer 1 0 0\nrefused 14 reader 0 0 0 0\nevent 34 bytes {event} reader 34 1 1 0\nmoved reader 34 1 1 0\n"
     );
     assert_eq!(answers(script), expected);
+}
+
+#[test]
+fn a_recording_is_put_at_the_front_of_the_output() {
+    let script = "size 0 8448\ncreate 0 258\nrecord 0 0 9\nrecord 0 1 4\nrecord 0 0 0\nrecord 0 9 40960\nrecord 0 32 1\n";
+    let opening = "53504c0100020100";
+    let pieces =
+        format!("placed 9 bytes {opening}00\nplaced 4 bytes 504c0100\nplaced 0 bytes -\nplaced 23 bytes {}\n", "00".repeat(23));
+    assert_eq!(answers(script), format!("ok\ndone\n{pieces}placed 0 bytes -\n"));
+}
+
+#[test]
+fn refused_recordings_show_no_record_and_leave_the_output() {
+    let script = "size 0 8448\ncreate 0 258\nrecord 0 0 8\noutsum\nrecord 0 33 8\nrecord 0 18446744073709551615 40960\n\
+                  record 0 18446744073709551616 8\nrecord 0 0\nrecord 1 0 8\nput 0 64 01\nrecord 0 33 8\noutsum\n";
+    let answers = answers(script);
+    let answers: Vec<&str> = answers.lines().collect();
+    assert_eq!(answers[4..11], ["refused 13", "refused 13", "unknown", "unknown", "refused 1", "ok", "refused 10 at 0"]);
+    assert_eq!(answers[3], answers[11]);
 }

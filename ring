@@ -1,13 +1,15 @@
 #!/usr/bin/env bash
 # ./ring NAME [FILE]: runs the program NAME on FILE or else on standard input, as in `./ring listing examples/start.ring`. Works from any folder.
 # It is proved and built first where that hasn't been done since the code last changed; what is said of that goes to standard error.
+# Status (RULES 8.10): 0 where the program has given the good answer, 1 where it has given the other one or none; 2 where it was used wrongly, couldn't be
+# run, or a file couldn't be read or written; 141 where whoever reads its output has had enough.
 set -euo pipefail
 root=$(dirname "$(readlink -f "$0")")
 
-# stop STATUS WORDS: 2 where the command was given wrongly, 1 where it couldn't be carried out
+# the status is the same where nobody can be told why
 stop() {
-    echo "ring: $2" >&2
-    exit "$1"
+    echo "ring: $1" >&2 || true
+    exit 2
 }
 
 is_program() { [[ $1 != */* ]] && [ -f "$root/crates/$1/src/main.rt" ]; }
@@ -33,42 +35,41 @@ usage() {
 name=${1:-}
 case $name in
 '')
-    usage >&2
+    usage >&2 || true
     exit 2
     ;;
 -h | --help)
-    usage
+    usage 2>/dev/null || stop "standard output can't be written"
     exit
     ;;
 esac
 if ! is_program "$name"; then
-    echo "ring: there is no program '$name'" >&2
-    usage >&2
+    { echo "ring: there is no program '$name'" && usage; } >&2 || true
     exit 2
 fi
 shift
 
 # All that can be seen to be wrong is said before anything is proved. The programs can't say it: to them an input that can't be read is an empty one.
 if takes_file "$name"; then
-    [ $# -le 1 ] || stop 2 "$name takes one FILE at most"
+    [ $# -le 1 ] || stop "$name takes one FILE at most"
 else
-    [ $# -eq 0 ] || stop 2 "$name takes no FILE"
+    [ $# -eq 0 ] || stop "$name takes no FILE"
 fi
-command -v rt >/dev/null || stop 1 "the Rattle kit is missing: there is no rt on the PATH"
+command -v rt >/dev/null || stop "the Rattle kit is missing: there is no rt on the PATH"
 if [ $# -eq 1 ]; then
-    [ ! -d "$1" ] || stop 1 "$1: Is a directory"
+    [ ! -d "$1" ] || stop "$1: Is a directory"
     if ! { exec <"$1"; } 2>/dev/null; then
         # the system's own reason, from the end of what bash says
         reason=$({ : <"$1"; } 2>&1) || true
-        stop 1 "$1: ${reason##*: }"
+        stop "$1: ${reason##*: }"
     fi
 fi
 if takes_file "$name"; then
-    { : 3<&0; } 2>/dev/null || stop 1 "standard input is closed"
+    { : 3<&0; } 2>/dev/null || stop "standard input is closed"
     # reads no byte, and fails where none could be read
-    read -r -n 0 2>/dev/null || stop 1 "${1:-standard input} can't be read"
+    read -r -n 0 2>/dev/null || stop "${1:-standard input} can't be read"
 fi
-{ : 3>&1; } 2>/dev/null || stop 1 "standard output is closed"
+{ : 3>&1; } 2>/dev/null || stop "standard output is closed"
 
 # set when the last build began: a file changed since then is newer
 mark=$root/target/ring/$name
@@ -110,18 +111,39 @@ if ! is_built; then
     mkdir -p "$(dirname "$mark")"
     touch "$mark.begun"
     if ! (cd "$root" && rt check "$name" 2>&1) </dev/null | progress "$all" >&2; then
-        stop 1 "$name isn't built"
+        stop "$name isn't built"
     fi
     mv "$mark.begun" "$mark"
 fi
 
-# A program doesn't see whether its output could be written either. cat does.
-ended=(0 0)
-"$root/tests/run-program" "$name" | cat 2>/dev/null || ended=("${PIPESTATUS[@]}")
-case ${ended[1]} in
+# To a program an input whose reading fails is one that ends there, and it would answer to half a ring. head tells the two apart. No program looks at more
+# than 64 MiB.
+if takes_file "$name"; then
+    input=$(mktemp) || stop "there is no room for ${1:-standard input}"
+    if ! head -c 67108864 >"$input" 2>/dev/null; then
+        rm -f "$input"
+        stop "${1:-standard input} can't be read"
+    fi
+    exec <"$input"
+    rm "$input"
+fi
+
+# A program has no exit status of its own: it writes the digit to descriptor 3. Nor does it see whether its output could be written. cat does.
+exec 4>&1
+said=$(
+    exec 3>&1
+    ended=(0 0)
+    "$root/tests/run-program" "$name" 4>&- | cat 2>/dev/null >&4 3>&- || ended=("${PIPESTATUS[@]}")
+    echo "/${ended[*]}"
+)
+digit=${said%%/*}
+read -r program output <<<"${said##*/}"
+case $output in
 0) ;;
 # a reader that has had enough, such as head, is no fault
 141) exit 141 ;;
-*) stop 1 "standard output can't be written" ;;
+*) stop "standard output can't be written" ;;
 esac
-[ "${ended[0]}" -eq 0 ] || stop 1 "$name ended with status ${ended[0]}"
+[ "$program" -eq 0 ] || stop "$name ended with status $program"
+[[ $digit == [01] ]] || stop "$name didn't say how it ended"
+exit "$digit"

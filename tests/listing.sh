@@ -1,10 +1,11 @@
 #!/usr/bin/env bash
-# Runs the built listing on every stored ring and compares what it writes, byte for byte, with the text stored under the same name.
-# Every ring has a text and every text a ring, so that none is passed over.
+# Runs the built listing on every stored ring and compares what it writes, byte for byte, with the text stored under the same name, and the status that
+# it says, a digit on descriptor 3. Every ring has a text and every text a ring, so that none is passed over.
 set -uo pipefail
 cd "$(dirname "$(readlink -f "$0")")/.."
 out=$(mktemp)
-trap 'rm -f "$out"' EXIT
+digit=$(mktemp)
+trap 'rm -f "$out" "$digit"' EXIT
 
 compared=0
 failed=0
@@ -18,17 +19,19 @@ for ring in examples/*.ring tests/listing/*.ring; do
     text=tests/listing/$name.txt
     if [ ! -f "$text" ]; then
         fail "$ring has no text"
-    elif ! tests/run-program listing <"$ring" >"$out"; then
+    elif ! tests/run-program listing <"$ring" >"$out" 3>"$digit"; then
         fail "$ring: the program ended with an error"
     elif ! cmp "$out" "$text" >&2; then
         fail "$ring: another text than $text"
+    elif [ "$(cat "$digit")" != "$(grep -qE '^(refused|too long)' "$text" && echo 1 || echo 0)" ]; then
+        fail "$ring: status '$(cat "$digit")'"
     else
         compared=$((compared + 1))
     fi
 done
 
 # the stored rings are those that were put together from the paper's tables
-python3 tests/make-rings.py --check || fail "a stored ring is another than make-rings.py makes"
+python3 tests/make-rings.py --check || fail "a stored file is another than make-rings.py makes"
 
 texts=$(ls tests/listing/*.txt | wc -l)
 if [ "$texts" -ne $((compared + failed)) ]; then

@@ -1,7 +1,9 @@
 #!/usr/bin/env python3
-"""make-rings.py [--check]: writes the rings that the listing is run on, or says which stored one differs.
+"""make-rings.py [--check | --large FOLDER]: writes the rings that programs are run on and what record has to write of each, or says which stored file
+differs; or writes into FOLDER rings that are too large to be stored.
 
-They are put together from the tables of the papers alone (RULES 2.1 and 3.1), byte by byte: nothing here is taken from the project's code.
+They are put together from the tables of the papers alone (RULES 2.1, 3.1 and 10.1), byte by byte: nothing here is taken from the project's code.
+A recording is made of the events that a ring is made of, and not of the ring.
 """
 import struct
 import sys
@@ -34,6 +36,12 @@ def ring(capacity, tail_pos, events, **page):
     return bytes(pages(capacity, position, tail_pos, **page) + data)
 
 
+def recording(events, cpu_id=3):
+    """RULES 10.1, 10.2: the opening, the events as they stand, eight zero bytes, handed and missed."""
+    last = struct.unpack_from("<Q", events[-1], 8)[0] if events else 0
+    return b"SPL" + struct.pack("<HHx", 1, cpu_id) + b"".join(events) + struct.pack("<QQQ", 0, len(events), last - len(events))
+
+
 def changed(base, at, new):
     return base[:at] + new + base[at + len(new):]
 
@@ -42,12 +50,15 @@ PAYLOAD = bytes(range(96))
 SIX, SEVEN = event(6, 1000, 2, PAYLOAD), event(7, 2000, 3, PAYLOAD)
 # RULES 9.1, line 13: event 7 has 96 bytes at data offset 160 and 32 at 0
 START = ring(256, 288, [SIX, SEVEN])
+# the widest numbers that a listing can show, and as many events as it can meet
+WIDEST = [event(2**64 - 1024 + i, 2**64 - 1, 2**32 - 1, b"", 65535) for i in range(1024)]
 
 RINGS = {
     "examples/start.ring": START,
     "examples/empty.ring": ring(256, 0, []),
     "examples/damaged.ring": ring(256, 288, [SIX, event(7, 2000, 3, PAYLOAD, header_size=33)]),
     "crates/listing/stdin": START,
+    "crates/record/stdin": START,
     "tests/listing/nothing.ring": b"",
     "tests/listing/short.ring": START[:8447],
     "tests/listing/magic.ring": changed(START, 7, b"\0"),
@@ -57,23 +68,76 @@ RINGS = {
     "tests/listing/position.ring": changed(START, 72, struct.pack("<Q", 545)),
     "tests/listing/first.ring": ring(256, 288, [event(6, 1000, 2, PAYLOAD, cpu_id=4), SEVEN]),
     "tests/listing/falling.ring": ring(256, 288, [SEVEN, SIX]),
-    # the widest numbers that a listing can show, and as many events as it can meet
-    "tests/listing/widest.ring": ring(
-        32768, 2**62 - 32768, [event(2**64 - 1024 + i, 2**64 - 1, 2**32 - 1, b"", 65535) for i in range(1024)], cpu_id=65535, generation=2**64 - 1
-    ),
+    "tests/listing/widest.ring": ring(32768, 2**62 - 32768, WIDEST, cpu_id=65535, generation=2**64 - 1),
     "tests/listing/long.ring": ring(32768, 0, [SIX]) + b"\0",
 }
 
+# what record writes: of a ring that passes its recording, of any other the refusal (RULES 5.3, and 6.9 for the place)
+RECORDS = {
+    "crates/record/stdout": recording([SIX, SEVEN]),
+    "tests/record/start.spl": recording([SIX, SEVEN]),
+    "tests/record/empty.spl": recording([]),
+    "tests/record/widest.spl": recording(WIDEST, cpu_id=65535),
+    "tests/record/damaged.txt": b"refused 10 at 416\n",
+    "tests/record/nothing.txt": b"refused 1\n",
+    "tests/record/short.txt": b"refused 1\n",
+    "tests/record/magic.txt": b"refused 2\n",
+    "tests/record/version.txt": b"refused 3\n",
+    "tests/record/layout.txt": b"refused 4\n",
+    "tests/record/length.txt": b"refused 5\n",
+    "tests/record/position.txt": b"refused 6\n",
+    "tests/record/first.txt": b"refused 10 at 288\n",
+    "tests/record/falling.txt": b"refused 10 at 416\n",
+    "tests/record/long.txt": b"refused 5\n",
+}
 
-def main(check):
-    differ = [name for name, ring in RINGS.items() if check and (ROOT / name).read_bytes() != ring]
-    for name, ring in RINGS.items():
+
+def filled(capacity):
+    """Events of growing sizes, their sequences two apart, that fill a ring of this capacity to the last byte."""
+    events, left, sequence = [], capacity, 1000
+    while left:
+        size = min(32 + 7 * len(events), capacity // 2)
+        if left - size < 32:
+            size = left
+        events.append(event(sequence, sequence * 10**9, len(events), bytes((sequence + i) % 256 for i in range(size - 32))))
+        left -= size
+        sequence += 2
+    return events
+
+
+def large():
+    """Each allowed capacity (RULES 1.2) full, the events going round the end; then the largest with damage in its last event, and inputs too long."""
+    files = {}
+    for exponent in range(8, 21):
+        events = filled(2**exponent)
+        files[f"{2**exponent}.ring"] = ring(2**exponent, 3 * 2**exponent - 100, events)
+        files[f"{2**exponent}.spl"] = recording(events)
+    tail = 3 * 2**20 - 100
+    files["damaged.ring"] = ring(2**20, tail, events[:-1] + [changed(events[-1], 4, b"\0")])
+    files["damaged.txt"] = f"refused 10 at {tail + 2**20 - len(events[-1])}\n".encode()
+    files["one-more.ring"] = files["1048576.ring"] + b"\0"
+    files["twice.ring"] = files["1048576.ring"] * 2
+    files["one-more.txt"] = files["twice.txt"] = b"too long\n"
+    return files
+
+
+def main(arguments):
+    if len(arguments) == 2 and arguments[0] == "--large":
+        folder, stored = Path(arguments[1]), large()
+    elif arguments in ([], ["--check"]):
+        folder, stored = ROOT, {**RINGS, **RECORDS}
+    else:
+        print(__doc__, file=sys.stderr)
+        return 2
+    check = arguments == ["--check"]
+    differ = [name for name, content in stored.items() if check and (folder / name).read_bytes() != content]
+    for name, content in stored.items():
         if not check:
-            (ROOT / name).write_bytes(ring)
+            (folder / name).write_bytes(content)
     for name in differ:
         print("differs:", name)
-    print(f"make-rings: {len(RINGS) - len(differ)} rings {'as stored' if check else 'written'}")
+    print(f"make-rings: {len(stored) - len(differ)} files {'as stored' if check else 'written'}")
     return 1 if differ else 0
 
 
-sys.exit(main("--check" in sys.argv[1:]))
+sys.exit(main(sys.argv[1:]))

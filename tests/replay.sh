@@ -8,30 +8,31 @@ trap 'rm -r "$work"' EXIT
 compared=0
 wrong=0
 
-# compare NAME SCRIPT ANSWERS
+# compare NAME SCRIPT ANSWERS SAID: SAID is the status that the program says, a digit on descriptor 3
 compare() {
-    local status=0
-    "$tests/run-program" replay < "$2" > "$work/found" || status=$?
+    local status=0 said
+    "$tests/run-program" replay < "$2" > "$work/found" 3> "$work/said" || status=$?
+    said=$(cat "$work/said")
     compared=$((compared + 1))
-    if [ "$status" -eq 0 ] && cmp -s "$work/found" "$3"; then
+    if [ "$status" -eq 0 ] && [ "$said" = "$4" ] && cmp -s "$work/found" "$3"; then
         echo "$1: $(wc -l < "$3") answers the same"
     else
         wrong=$((wrong + 1))
-        echo "$1: DIFFERENT (status $status): $(cmp "$work/found" "$3" 2>&1)"
+        echo "$1: DIFFERENT (status $status, said '$said'): $(cmp "$work/found" "$3" 2>&1)"
     fi
 }
 
 for script in "$tests"/second/stored/*.script; do
-    compare "$(basename "$script" .script)" "$script" "${script%.script}.answers"
+    compare "$(basename "$script" .script)" "$script" "${script%.script}.answers" 0
 done
 head -c 1048577 /dev/zero > "$work/long"
 echo 'too long' > "$work/long.answers"
-compare 'one byte too long' "$work/long" "$work/long.answers"
+compare 'one byte too long' "$work/long" "$work/long.answers" 1
 head -c 1048576 /dev/zero > "$work/longest"
 echo 'unknown' > "$work/longest.answers"
-compare 'the longest' "$work/longest" "$work/longest.answers"
+compare 'the longest' "$work/longest" "$work/longest.answers" 0
 : > "$work/none"
-compare 'no byte' "$work/none" "$work/none"
+compare 'no byte' "$work/none" "$work/none" 0
 
 # the second implementation's own tests, and what it says of the stored set
 if ! (cd "$tests/second" && cargo test --quiet --release --offline >"$work/own" 2>&1); then
@@ -50,4 +51,4 @@ if ! cmp "$input/stdin" "$tests/second/stored/mixed.script" || ! cmp "$input/std
     wrong=$((wrong + 1))
 fi
 echo "replay: $compared scripts compared, $wrong differences"
-[ "$wrong" -eq 0 ] && [ "$compared" -eq 7 ]
+[ "$wrong" -eq 0 ] && [ "$compared" -eq 8 ]

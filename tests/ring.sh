@@ -37,7 +37,8 @@ cp ring "$copy"
 cp tests/run-program "$copy/tests"
 cp examples/*.ring "$copy/examples"
 cp examples/start.ring "$copy/the first start.ring"
-for name in listing replay sums; do
+cp tests/record/start.spl "$copy"
+for name in listing record replay sums; do
     if ! cp "target/bin/$name" "$copy/target/bin"; then
         echo "ring: $name isn't built" >&2
         exit 1
@@ -45,9 +46,10 @@ for name in listing replay sums; do
     mkdir -p "$copy/crates/$name/src"
 done
 echo '// Lists a ring. This is not shown.' >"$copy/crates/listing/src/main.rt"
+echo '// Records a ring' >"$copy/crates/record/src/main.rt"
 echo '// Plays a script (README.md).' >"$copy/crates/replay/src/main.rt"
 echo '// Works sums' >"$copy/crates/sums/src/main.rt"
-touch "$copy/crates/listing/stdin" "$copy/crates/replay/stdin" "$copy/crates/word/src/lib.rt"
+touch "$copy"/crates/{listing,record,replay}/stdin "$copy/crates/word/src/lib.rt"
 cat >"$copy/crates.txt" <<'END'
 # listing stands on three of these
 table_rules:
@@ -58,16 +60,22 @@ text: word
 table: table_rules
 listing: text io libc
 END
-touch "$copy"/target/ring/{listing,replay,sums}
+touch "$copy"/target/ring/{listing,record,replay,sums}
+
+# the largest ring, whose recording no pipe holds
+python3 tests/make-rings.py --large "$work" >/dev/null || fail "no large rings"
+mv "$work/1048576.ring" "$copy/large.ring"
 
 start=$(cat tests/listing/start.txt)
 usage="usage: ./ring NAME [FILE]: runs NAME with FILE as its standard input. NAME is one of:
   listing [FILE]   Lists a ring
+  record [FILE]    Records a ring
   replay [FILE]    Plays a script (README.md)
   sums             Works sums"
 
 try 'a file' 0 "$start" '' './ring listing examples/start.ring'
-try 'a refusal' 0 "$(cat tests/listing/damaged.txt)" '' './ring listing examples/damaged.ring'
+try 'a refusal' 1 "$(cat tests/listing/damaged.txt)" '' './ring listing examples/damaged.ring'
+try 'a ring too long to list' 1 'too long' '' 'head -c 40961 /dev/zero | ./ring listing'
 try 'standard input' 0 "$start" '' './ring listing <examples/start.ring'
 try 'a pipe' 0 "$start" '' 'cat examples/start.ring | ./ring listing'
 try 'a pipe by name' 0 "$start" '' './ring listing <(cat examples/start.ring)'
@@ -75,11 +83,20 @@ try 'a file with spaces' 0 "$start" '' './ring listing "the first start.ring"'
 try 'another folder' 0 "$start" '' 'cd examples && ../ring listing start.ring'
 try 'the whole path' 0 "$start" '' 'cd / && "$copy/ring" listing "$copy/examples/start.ring"'
 try 'a link' 0 "$start" '' 'ln -s "$copy/ring" "$work/link" && "$work/link" listing examples/start.ring'
+try 'a recording' 0 '' '' './ring record <examples/start.ring >made.spl && cmp made.spl start.spl'
+try 'a recording of a file by name' 0 '' '' './ring record examples/start.ring | cmp - start.spl'
+try 'a refused recording' 1 '' 'refused 10 at 416' './ring record <examples/damaged.ring'
+try 'no byte to record' 1 '' 'refused 1' './ring record </dev/null'
+try 'a ring too long to record' 1 '' 'too long' 'head -c 1056769 /dev/zero | ./ring record'
+try 'much too long' 1 '' 'too long' 'head -c 4000000 /dev/zero | ./ring record'
 try 'a script' 0 unknown '' 'echo nothing >script && ./ring replay script'
+try 'a script too long' 1 'too long' '' 'head -c 1048577 /dev/zero | ./ring replay'
 try 'sums' 0 "$(cat crates/sums/stdout)" '' './ring sums'
 try 'sums with no input' 0 "$(cat crates/sums/stdout)" '' './ring sums <&-'
 # where whoever runs this has the signal ignored, it is set back
 try 'a reader that stops' 141 '' '' 'env --default-signal=PIPE ./ring sums | :; exit "${PIPESTATUS[0]}"'
+try 'a reader that stops within a recording' 141 S '' \
+    'env --default-signal=PIPE ./ring record <large.ring | { head -c 1 && echo; }; exit "${PIPESTATUS[0]}"'
 
 try 'no word' 2 '' "$usage" './ring'
 try 'help' 0 "$usage" '' './ring --help'
@@ -88,21 +105,34 @@ try 'a library' 2 '' "ring: there is no program 'word'"$'\n'"$usage" './ring wor
 try 'a path' 2 '' "ring: there is no program 'word/../listing'"$'\n'"$usage" './ring word/../listing'
 try 'two files' 2 '' 'ring: listing takes one FILE at most' './ring listing examples/start.ring examples/empty.ring'
 try 'a file for sums' 2 '' 'ring: sums takes no FILE' './ring sums examples/start.ring'
-try 'no such file' 1 '' 'ring: no such.ring: No such file or directory' './ring listing "no such.ring"'
-try 'a folder' 1 '' 'ring: examples: Is a directory' './ring listing examples'
+try 'no such file' 2 '' 'ring: no such.ring: No such file or directory' './ring listing "no such.ring"'
+try 'a folder' 2 '' 'ring: examples: Is a directory' './ring listing examples'
 # root reads every file, so this one is for others
 if [ "$(id -u)" -ne 0 ]; then
-    try 'a file without permission' 1 '' 'ring: shut.ring: Permission denied' 'touch shut.ring && chmod 0 shut.ring && ./ring listing shut.ring'
+    try 'a file without permission' 2 '' 'ring: shut.ring: Permission denied' 'touch shut.ring && chmod 0 shut.ring && ./ring listing shut.ring'
 fi
-try 'a closed input' 1 '' 'ring: standard input is closed' './ring listing <&-'
-try 'a folder as input' 1 '' "ring: standard input can't be read" './ring listing <examples'
-try 'an input for writing' 1 '' "ring: standard input can't be read" './ring replay 0>written'
-try 'a closed output' 1 '' 'ring: standard output is closed' './ring listing examples/start.ring >&-'
-try 'a full output' 1 '' "ring: standard output can't be written" './ring listing examples/start.ring >/dev/full'
-try 'a full output of sums' 1 '' "ring: standard output can't be written" './ring sums >/dev/full'
+try 'a closed input' 2 '' 'ring: standard input is closed' './ring listing <&-'
+try 'a folder as input' 2 '' "ring: standard input can't be read" './ring listing <examples'
+try 'an input for writing' 2 '' "ring: standard input can't be read" './ring replay 0>written'
+try 'a closed output' 2 '' 'ring: standard output is closed' './ring listing examples/start.ring >&-'
+try 'a full output' 2 '' "ring: standard output can't be written" './ring listing examples/start.ring >/dev/full'
+try 'a full output of sums' 2 '' "ring: standard output can't be written" './ring sums >/dev/full'
+try 'a closed output for a recording' 2 '' 'ring: standard output is closed' './ring record <examples/start.ring >&-'
+try 'a full output for a recording' 2 '' "ring: standard output can't be written" './ring record <examples/start.ring >/dev/full'
+try 'a full output for a large recording' 2 '' "ring: standard output can't be written" './ring record <large.ring >/dev/full'
+try 'a full output for help' 2 '' "ring: standard output can't be written" './ring --help >/dev/full'
+try 'closed errors' 0 '' '' './ring record <examples/start.ring 2>&- | cmp - start.spl'
+try 'closed errors, and a refusal' 1 '' '' './ring record <examples/damaged.ring 2>&-'
+try 'closed errors, and no such file' 2 '' '' './ring record "no such.ring" 2>&-'
+try 'full errors, and a refusal' 1 '' '' './ring record <examples/damaged.ring 2>/dev/full'
+try 'full errors, and a wrong word' 2 '' '' './ring nosuch 2>/dev/full'
+try 'full errors, and no word' 2 '' '' './ring 2>/dev/full'
+# what can be opened, and fails when it is read: a process' own memory, at 0
+try 'a file that fails' 2 '' "ring: /proc/self/mem can't be read" './ring record /proc/self/mem'
+try 'an input that fails' 2 '' "ring: standard input can't be read" 'exec 5</proc/self/mem && ./ring replay <&5; exit "$?"'
 mkdir "$work/tools"
 ln -s "$(command -v bash)" "$(command -v dirname)" "$(command -v readlink)" "$work/tools"
-try 'no kit' 1 '' 'ring: the Rattle kit is missing: there is no rt on the PATH' 'PATH=$work/tools ./ring listing examples/start.ring'
+try 'no kit' 2 '' 'ring: the Rattle kit is missing: there is no rt on the PATH' 'PATH=$work/tools ./ring listing examples/start.ring'
 
 # Building, with an rt that says what the kit's own said when it last proved these crates. It reads what it is given, which mustn't be the program's
 # input, and wants to stand where crates.txt is, as the kit's does.
@@ -131,13 +161,23 @@ echo 'sums: word' >>"$copy/crates.txt"
 not_built="ring: proving and building sums, 3 crates; $begins
 rt: sums NOT PROVED (exit 1, 2 s)
 ring: sums isn't built"
-try 'not proved' 1 '' "$not_built" './ring sums'
-try 'not proved, again' 1 '' "$not_built" './ring sums'
+try 'not proved' 2 '' "$not_built" './ring sums'
+try 'not proved, again' 2 '' "$not_built" './ring sums'
+
+# Programs that end otherwise than they should: a run-program that does as it is told stands for them.
+printf '#!/usr/bin/env bash\neval "$acts"\n' >"$copy/tests/run-program"
+touch "$copy/target/ring/sums"
+try 'both streams' 1 out err "acts='echo out; echo err >&2; printf 1 >&3' ./ring sums"
+try 'every byte' 0 '' '' "acts='cat <start.spl; printf 0 >&3' ./ring sums | cmp - start.spl"
+try 'an end without a status' 2 out "ring: sums didn't say how it ended" "acts='echo out' ./ring sums"
+try 'an end with two' 2 '' "ring: sums didn't say how it ended" "acts='printf 01 >&3' ./ring sums"
+try 'an end with another' 2 '' "ring: sums didn't say how it ended" "acts='printf 2 >&3' ./ring sums"
+try 'a crash' 2 out 'ring: sums ended with status 5' "acts='echo out; printf 0 >&3; exit 5' ./ring sums"
 
 # the programs of the tree itself, each with a word on what it does
 tried=$((tried + 1))
 named=$(./ring 2>&1 | sed -n 's/^  \([a-z_]*\( \[FILE\]\)\?\)  *[A-Z].*/\1/p')
-[ "$named" = $'listing [FILE]\nreplay [FILE]\nsums' ] || fail "the programs are named as: $named"
+[ "$named" = $'listing [FILE]\nrecord [FILE]\nreplay [FILE]\nsums' ] || fail "the programs are named as: $named"
 
 if [ "$failed" -ne 0 ]; then
     exit 1

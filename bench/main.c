@@ -13,6 +13,7 @@
 
 uint32_t bench_read(const uint8_t *ring, size_t ring_bytes, uint8_t *record, size_t record_bytes, uint8_t *out, size_t out_bytes);
 uint32_t bench_swap(uint8_t *old, size_t old_bytes, uint8_t *new, size_t new_bytes, uint8_t *record, size_t record_bytes);
+uint32_t bench_record(const uint8_t *ring, size_t ring_bytes, uint64_t placed, uint8_t *out, size_t out_bytes);
 
 enum { ARCHIVE, PLAIN, PREPARED };
 
@@ -21,17 +22,26 @@ enum { ARCHIVE, PLAIN, PREPARED };
 #define TIMESTAMP 0x0102030405060708
 #define EVENT_TYPE 0x0A0B0C0D
 #define ORIGIN_CLASS 7
+#define DATA_OFFSET 8192
+/* the recording's opening, and what comes before and behind the events together */
+#define OPENING_BYTES 8
+#define ENDS_BYTES 32
+/* from where on bench_record tells how many bytes it put */
+#define PUT 2000
 
 static uint8_t ring[3][LARGEST];
 static uint8_t new_ring[2][LARGEST];
 static uint8_t record[3][24];
 static uint8_t reader[2][32];
 static uint8_t out[2][2048];
-static uint8_t payload[1024];
+/* longer than any payload: with 4,096 the rings would lie whole pages behind it, from where the C library copies in another order */
+static uint8_t payload[5120];
 static size_t ring_bytes;
 static unsigned long differences;
 
-static volatile unsigned long ended;
+/* The compiler places it before the buffers, so that with it they too lie at one place of their 64 bytes whatever the program's length:
+   from another place on the C library's copies take another number of instructions. */
+static _Alignas(64) volatile unsigned long ended;
 void call_ended(void);
 
 /* marks the end of what is counted together */
@@ -64,15 +74,20 @@ static void fresh_at(size_t capacity, uint64_t position)
     memcpy(ring[PREPARED] + 72, &position, sizeof position);
 }
 
-/* as many events of one size as go in with none passed */
-static unsigned long fill(size_t capacity, size_t payload_bytes)
+/* from a position on, as many events of one size as go in with none passed */
+static unsigned long fill_at(size_t capacity, size_t payload_bytes, uint64_t position)
 {
     unsigned long events = capacity / (LAMIPEONGA_HEADER_BYTES + payload_bytes);
 
-    fresh(capacity);
+    fresh_at(capacity, position);
     for (unsigned long i = 0; i < events; i++)
         prepare_emit(ring[PREPARED], ring_bytes, record[PREPARED], sizeof record[PREPARED], 1, 1, 1, payload, payload_bytes);
     return events;
+}
+
+static unsigned long fill(size_t capacity, size_t payload_bytes)
+{
+    return fill_at(capacity, payload_bytes, 0);
 }
 
 /* what was prepared, to both */
@@ -185,6 +200,32 @@ static void measure_swap(const char *group, size_t capacity, size_t new_capacity
     printf("%s|capacity %zu to %zu, %zu bytes kept|%zu|%lu\n", group, capacity, new_capacity, (size_t)number_at(new_ring[PLAIN] + 64), new_bytes, events);
 }
 
+/* the bytes between tail and write */
+static size_t bytes_held(void)
+{
+    return (size_t)(number_at(ring[PREPARED] + 64) - number_at(ring[PREPARED] + 72));
+}
+
+/* the recording's bytes from `placed` on, as many as `room` takes; the new rings' buffers are the output */
+static void measure_record(const char *group, const char *piece, unsigned long events, uint64_t placed, size_t room)
+{
+    size_t left = bytes_held() + ENDS_BYTES - (size_t)placed;
+    size_t bytes = left < room ? left : room;
+    uint32_t answer[2];
+
+    hand_to_both();
+    memset(new_ring, 0xEE, sizeof new_ring);
+    answer[ARCHIVE] = bench_record(ring[ARCHIVE], ring_bytes, placed, new_ring[ARCHIVE], room);
+    call_ended();
+    answer[PLAIN] = plain_record(ring[PLAIN], ring_bytes, placed, new_ring[PLAIN], room);
+    call_ended();
+    same_answer(group, PUT + (uint32_t)bytes, answer[ARCHIVE], answer[PLAIN]);
+    same(group, ring[ARCHIVE], ring[PREPARED], ring_bytes);
+    same(group, ring[PLAIN], ring[PREPARED], ring_bytes);
+    same(group, new_ring[ARCHIVE], new_ring[PLAIN], sizeof new_ring[PLAIN]);
+    printf("%s|capacity %zu, %lu events in %zu bytes: %zu put%s|%zu|%lu\n", group, ring_bytes - DATA_OFFSET, events, bytes_held(), bytes, piece, bytes, events);
+}
+
 static const size_t payloads[] = {0, 32, 96, 1000};
 
 #define EACH(i, list) (size_t i = 0; i < sizeof list / sizeof list[0]; i++)
@@ -242,6 +283,46 @@ static void swaps(size_t capacity)
     measure_swap("swap", capacity, capacity * 4, fill(capacity, 96));
 }
 
+/* the whole in one piece, and one inspection of the same ring to set beside it and what follows */
+static void record_whole(const char *piece, unsigned long events)
+{
+    measure_inspect("beside record", ring_bytes - DATA_OFFSET, events);
+    measure_record("record", piece, events, 0, bytes_held() + ENDS_BYTES);
+}
+
+static void record_pieces(unsigned long events)
+{
+    static const size_t rooms[] = {1, 32, 1023, 1024};
+
+    record_whole(", the whole", events);
+    for EACH (i, rooms)
+        measure_record("record", " from the middle", events, OPENING_BYTES + bytes_held() / 2, rooms[i]);
+    measure_record("record", ", all placed before", events, bytes_held() + ENDS_BYTES, 1024);
+}
+
+/* half of each piece, and half of an event, lie behind the data's end */
+static void record_over_the_end(size_t capacity)
+{
+    static const size_t rooms[] = {32, 1024};
+    size_t before_end = capacity / 2 - 64;
+    unsigned long events = fill_at(capacity, 96, capacity - before_end);
+
+    record_whole(", the whole, over the data's end", events);
+    for EACH (i, rooms)
+        measure_record("record", " over the data's end", events, OPENING_BYTES + before_end - rooms[i] / 2, rooms[i]);
+}
+
+static void recordings(size_t small, size_t large)
+{
+    fresh(small);
+    record_whole(", the whole", 0);
+    record_whole(", the whole", fill(small, 0));
+    record_whole(", the whole", fill(small, 96));
+    record_pieces(fill(large, 96));
+    record_pieces(fill(large, 4064));
+    record_over_the_end(large);
+}
+
 static void growth(void)
 {
     for (size_t capacity = 256; capacity <= 1048576; capacity *= 4) {
@@ -259,8 +340,10 @@ static void print_marks(void)
     printf("%016lx", (unsigned long)call_ended);
     printf(" %016lx %016lx %016lx %016lx %016lx", (unsigned long)lamipeonga_create, (unsigned long)lamipeonga_emit, (unsigned long)lamipeonga_inspect,
            (unsigned long)bench_read, (unsigned long)bench_swap);
-    printf(" %016lx %016lx %016lx %016lx %016lx\n", (unsigned long)plain_create, (unsigned long)plain_emit, (unsigned long)plain_inspect,
+    printf(" %016lx", (unsigned long)bench_record);
+    printf(" %016lx %016lx %016lx %016lx %016lx", (unsigned long)plain_create, (unsigned long)plain_emit, (unsigned long)plain_inspect,
            (unsigned long)plain_read, (unsigned long)plain_swap);
+    printf(" %016lx\n", (unsigned long)plain_record);
 }
 
 int main(void)
@@ -276,12 +359,14 @@ int main(void)
     measure_create("warm", 256);
     fill(4096, 32);
     measure_swap("warm", 4096, 4096, 64);
+    measure_record("warm", ", the whole", 64, 0, sizeof new_ring[0]);
 
     emissions(4096);
     readings(4096);
     inspections(4096);
     creations();
     swaps(65536);
+    recordings(4096, 65536);
     growth();
     return differences != 0;
 }

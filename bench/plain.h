@@ -1,4 +1,4 @@
-/* The same five operations as the archives', in plain C. Compiled twice: measured under these names, and under prepare_* to fill the rings. */
+/* The same six operations as the archives', in plain C. Compiled twice: measured under these names, and under prepare_* to fill the rings. */
 #ifndef PLAIN_H
 #define PLAIN_H
 
@@ -11,6 +11,7 @@
 #define plain_inspect prepare_inspect
 #define plain_read prepare_read
 #define plain_swap prepare_swap
+#define plain_record prepare_record
 #endif
 
 uint32_t plain_create(uint8_t *ring, size_t ring_bytes, uint16_t cpu_id);
@@ -19,5 +20,6 @@ uint32_t plain_emit(uint8_t *ring, size_t ring_bytes, uint8_t *record, size_t re
 uint32_t plain_inspect(const uint8_t *ring, size_t ring_bytes);
 uint32_t plain_read(const uint8_t *ring, size_t ring_bytes, uint8_t *record, size_t record_bytes, uint8_t *out, size_t out_bytes);
 uint32_t plain_swap(uint8_t *old, size_t old_bytes, uint8_t *new, size_t new_bytes, uint8_t *record, size_t record_bytes);
+uint32_t plain_record(const uint8_t *ring, size_t ring_bytes, uint64_t placed, uint8_t *out, size_t out_bytes);
 
 #endif

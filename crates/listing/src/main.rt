@@ -3,6 +3,9 @@ use libc::STDIN_FILENO;
 use libc::STDOUT_FILENO;
 use listing_text::listing;
 use refusal_text::Kind;
+use status::Ended;
+use status::STATUS_FILENO;
+use status::digit;
 
 fn main() {
     let mut input = [0u8; 40961];
@@ -12,8 +15,9 @@ fn main() {
     let count = replied.count;
     io::write_all(STDOUT_FILENO, &out[..count]);
     let kind = replied.kind;
-    match kind {
-        Kind::Wanted => status::good(),
-        Kind::Reason => status::other(),
-    }
+    let ended = match kind {
+        Kind::Wanted => Ended::Good,
+        Kind::Reason => Ended::Other,
+    };
+    io::write_all(STATUS_FILENO, &digit(ended));
 }

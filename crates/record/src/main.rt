@@ -8,6 +8,9 @@ use record_file::record_file;
 use refusal_text::Kind;
 use room::recording_room;
 use room::ring_room;
+use status::Ended;
+use status::STATUS_FILENO;
+use status::digit;
 
 fn main() {
     let mut input = ring_room();
@@ -19,11 +22,11 @@ fn main() {
     match kind {
         Kind::Wanted => {
             io::write_all(STDOUT_FILENO, &out[..count]);
-            status::good();
+            io::write_all(STATUS_FILENO, &digit(Ended::Good));
         }
         Kind::Reason => {
             io::write_all(STDERR_FILENO, &out[..count]);
-            status::other();
+            io::write_all(STATUS_FILENO, &digit(Ended::Other));
         }
     }
 }

@@ -6,7 +6,9 @@ use writer::zeros;
 use writer_rules::Writer;
 ghost use mathlib.Core.Path.{_≡_};
 ghost use Prim.Native.Nat.{_≤_};
-ghost use lib.ListN.{set};
+ghost use lib.ListN.{set, replicate};
+ghost use Rattle.writer_rules.specs.Writer.{zeros as noneWritten};
+ghost use Rattle.reader_rules.specs.Reader.{readerWith};
 
 // How many bytes of each buffer are in use, and the records.
 pub struct State {
@@ -15,7 +17,11 @@ pub struct State {
     pub readers: [Reader; 4],
 }
 
-pub fn fresh() -> State {
+pub fn fresh() -> State
+    ensures lengths { λ r. ⌜ r .lengths ≡ replicate 4 0 ⌝ }
+    ensures writers { λ r. ⌜ r .writers ≡ replicate 4 noneWritten ⌝ }
+    ensures readers { λ r. ⌜ r .readers ≡ replicate 4 (readerWith 0 0 0 0) ⌝ }
+{
     let writer = zeros();
     let reader = reader_with(0, 0, 0, 0);
     State {

@@ -2,6 +2,10 @@
 use script::field::count_fields;
 use script::field::field;
 use script::field::same;
+ghost use mathlib.Core.Path.{_≡_};
+ghost use mathlib.Core.Bool.{_&&_};
+ghost use lib.Dec.{eqb};
+ghost use Rattle.script.specs.Field.{alike};
 
 // A line that may change the bytes of the buffer that it names.
 pub enum Changing {
@@ -33,42 +37,52 @@ pub enum Command {
     Unknown,
 }
 
+// A word alone is no command: its line must have just as many fields as it takes.
+fn begins(word: &[u8], fields: usize, command: &[u8], takes: usize) -> bool
+    ensures { λ r. ⌜ r ≡ (eqb fields takes && alike (now (word .entry)) (now (command .entry))) ⌝ }
+{
+    if fields != takes {
+        return false;
+    }
+    same(word, command)
+}
+
 fn changing_word(word: &[u8], fields: usize) -> Command {
-    if fields == 4 && same(word, b"put") {
+    if begins(word, fields, b"put", 4) {
         return Command::Changing(Changing::Put);
     }
-    if fields == 3 && same(word, b"create") {
+    if begins(word, fields, b"create", 3) {
         return Command::Changing(Changing::Create);
     }
-    if fields == 7 && same(word, b"emit") {
+    if begins(word, fields, b"emit", 7) {
         return Command::Changing(Changing::Emit);
     }
-    if fields == 7 && same(word, b"emitlen") {
+    if begins(word, fields, b"emitlen", 7) {
         return Command::Changing(Changing::Emitlen);
     }
     Command::Unknown
 }
 
 fn looking_word(word: &[u8], fields: usize) -> Command {
-    if fields == 4 && same(word, b"get") {
+    if begins(word, fields, b"get", 4) {
         return Command::Looking(Looking::Get);
     }
-    if fields == 2 && same(word, b"sum") {
+    if begins(word, fields, b"sum", 2) {
         return Command::Looking(Looking::Sum);
     }
-    if fields == 2 && same(word, b"inspect") {
+    if begins(word, fields, b"inspect", 2) {
         return Command::Looking(Looking::Inspect);
     }
-    if fields == 3 && same(word, b"attach") {
+    if begins(word, fields, b"attach", 3) {
         return Command::Looking(Looking::Attach);
     }
-    if fields == 4 && same(word, b"read") {
+    if begins(word, fields, b"read", 4) {
         return Command::Looking(Looking::Read);
     }
-    if fields == 3 && same(word, b"follow") {
+    if begins(word, fields, b"follow", 3) {
         return Command::Looking(Looking::Follow);
     }
-    if fields == 4 && same(word, b"record") {
+    if begins(word, fields, b"record", 4) {
         return Command::Looking(Looking::Record);
     }
     Command::Unknown
@@ -76,19 +90,19 @@ fn looking_word(word: &[u8], fields: usize) -> Command {
 
 // Lines on no ring, on a whole buffer, or on two.
 fn other_word(word: &[u8], fields: usize) -> Command {
-    if fields == 3 && same(word, b"size") {
+    if begins(word, fields, b"size", 3) {
         return Command::Size;
     }
-    if fields == 1 && same(word, b"outsum") {
+    if begins(word, fields, b"outsum", 1) {
         return Command::Outsum;
     }
-    if fields == 5 && same(word, b"writer") {
+    if begins(word, fields, b"writer", 5) {
         return Command::Writer;
     }
-    if fields == 6 && same(word, b"reader") {
+    if begins(word, fields, b"reader", 6) {
         return Command::Reader;
     }
-    if fields == 4 && same(word, b"swap") {
+    if begins(word, fields, b"swap", 4) {
         return Command::Swap;
     }
     Command::Unknown

@@ -1,4 +1,4 @@
-# From a file of callgrind's costs: each function's own instructions, the most first, the C library's together.
+# From a file of callgrind's costs: each function's own instructions, the C library's together.
 /^ob=/ {
     id = first_word($0)
     if (NF > 1)
@@ -21,19 +21,6 @@
     inclusive = 0
 }
 /^c?fn=|^cob=/ { remember() }
-END {
-    while (1) {
-        most = ""
-        for (at in own)
-            if (own[at] > 0 && (most == "" || own[at] > own[most]))
-                most = at
-        if (most == "")
-            break
-        line = line sprintf("%s %s %d", line == "" ? "" : ",", most, own[most])
-        delete own[most]
-    }
-    print line
-}
 
 function first_word(text) {
     sub(/^[a-z]+=/, "", text)

@@ -1,7 +1,7 @@
 /*
  * The measured calls. Each is made twice on the same bytes, first by the archives, then by plain.c, and everything that the two left is compared.
- * For each pair one line is printed: what was called, on what, the bytes that it copies or makes, and the events that it looks at or passes.
- * bench/run lays the counts beside it. The first line has addresses.
+ * For each pair one line is printed: what was called, on what, the bytes that it copies or makes, the events that it looks at or passes, and of a swap the
+ * bytes kept. bench/run lays the counts beside it. The first line has addresses.
  * Ends with 1 if anything differs: counts of unequal work would say nothing.
  */
 #include "lamipeonga.h"
@@ -44,7 +44,7 @@ static unsigned long differences;
 static _Alignas(64) volatile unsigned long ended;
 void call_ended(void);
 
-/* marks the end of what is counted together */
+/* where valgrind ends what it counts together; by its address a log of addresses is read */
 __attribute__((noinline)) void call_ended(void)
 {
     ended++;
@@ -74,20 +74,52 @@ static void fresh_at(size_t capacity, uint64_t position)
     memcpy(ring[PREPARED] + 72, &position, sizeof position);
 }
 
-/* from a position on, as many events of one size as go in with none passed */
-static unsigned long fill_at(size_t capacity, size_t payload_bytes, uint64_t position)
+static size_t event_bytes(size_t payload_bytes)
 {
-    unsigned long events = capacity / (LAMIPEONGA_HEADER_BYTES + payload_bytes);
+    return LAMIPEONGA_HEADER_BYTES + payload_bytes;
+}
 
-    fresh_at(capacity, position);
+/* how many events of one size go in with none passed */
+static unsigned long fitting(size_t capacity, size_t payload_bytes)
+{
+    return capacity / event_bytes(payload_bytes);
+}
+
+static unsigned long add(size_t payload_bytes, unsigned long events)
+{
     for (unsigned long i = 0; i < events; i++)
         prepare_emit(ring[PREPARED], ring_bytes, record[PREPARED], sizeof record[PREPARED], 1, 1, 1, payload, payload_bytes);
     return events;
 }
 
+/* from a position on, as many events of one size as fit */
+static unsigned long fill_at(size_t capacity, size_t payload_bytes, uint64_t position)
+{
+    fresh_at(capacity, position);
+    return add(payload_bytes, fitting(capacity, payload_bytes));
+}
+
+/* the same up to a position: where the next event goes is then the same whatever bytes are left over */
+static unsigned long fill_up_to(size_t capacity, size_t payload_bytes, uint64_t position)
+{
+    return fill_at(capacity, payload_bytes, position - fitting(capacity, payload_bytes) * event_bytes(payload_bytes));
+}
+
 static unsigned long fill(size_t capacity, size_t payload_bytes)
 {
     return fill_at(capacity, payload_bytes, 0);
+}
+
+/* about half of the ring lies behind the data's end, and just half of the event that goes over it */
+static unsigned long fill_over_the_end(size_t capacity)
+{
+    return fill_at(capacity, 96, capacity / 2 + 64);
+}
+
+/* where an event begins of which half lies behind the data's end: with no payload half of its header does */
+static size_t half_before_end(size_t capacity, size_t payload_bytes)
+{
+    return capacity - event_bytes(payload_bytes) / 2;
 }
 
 /* what was prepared, to both */
@@ -97,6 +129,16 @@ static void hand_to_both(void)
         memcpy(ring[who], ring[PREPARED], ring_bytes);
         memcpy(record[who], record[PREPARED], sizeof record[who]);
     }
+}
+
+/* what a call doesn't write then shows; by words, since the C library's memset takes an instruction, and the emulator's log a line, for each byte */
+static void spoil(void *buffers, size_t bytes)
+{
+    static const uint64_t word = 0xE1E2E3E4E5E6E7E8;
+    uint8_t *to = buffers;
+
+    for (size_t at = 0; at + sizeof word <= bytes; at += sizeof word)
+        memcpy(to + at, &word, sizeof word);
 }
 
 static void same(const char *group, const void *a, const void *b, size_t bytes)
@@ -131,7 +173,7 @@ static void measure_emit(const char *group, size_t capacity, size_t payload_byte
     same(group, ring[ARCHIVE], ring[PLAIN], ring_bytes);
     same(group, record[ARCHIVE], record[PLAIN], sizeof record[PLAIN]);
     printf("%s|capacity %zu, payload %zu|%zu|%lu\n", group, capacity, payload_bytes,
-           LAMIPEONGA_HEADER_BYTES + payload_bytes, (unsigned long)(number_at(record[ARCHIVE] + 16) - overwritten));
+           event_bytes(payload_bytes), (unsigned long)(number_at(record[ARCHIVE] + 16) - overwritten));
 }
 
 static void measure_inspect(const char *group, size_t capacity, unsigned long events)
@@ -148,7 +190,7 @@ static void measure_inspect(const char *group, size_t capacity, unsigned long ev
     printf("%s|capacity %zu, %lu events|0|%lu\n", group, capacity, events, events);
 }
 
-/* the first event by an attached reader */
+/* the first event, by an attached reader that stands there */
 static void measure_read(const char *group, size_t capacity, size_t payload_bytes)
 {
     uint32_t answer[2];
@@ -156,7 +198,10 @@ static void measure_read(const char *group, size_t capacity, size_t payload_byte
     hand_to_both();
     memset(reader, 0, sizeof reader);
     memset(out, 0xEE, sizeof out);
-    reader[ARCHIVE][24] = reader[PLAIN][24] = 1;
+    for (int who = ARCHIVE; who <= PLAIN; who++) {
+        memcpy(reader[who], ring[PREPARED] + 72, 8);
+        reader[who][24] = 1;
+    }
     answer[ARCHIVE] = bench_read(ring[ARCHIVE], ring_bytes, reader[ARCHIVE], sizeof reader[ARCHIVE], out[ARCHIVE], sizeof out[ARCHIVE]);
     call_ended();
     answer[PLAIN] = plain_read(ring[PLAIN], ring_bytes, reader[PLAIN], sizeof reader[PLAIN], out[PLAIN], sizeof out[PLAIN]);
@@ -164,7 +209,7 @@ static void measure_read(const char *group, size_t capacity, size_t payload_byte
     same_answer(group, LAMIPEONGA_DONE, answer[ARCHIVE], answer[PLAIN]);
     same(group, reader[ARCHIVE], reader[PLAIN], sizeof reader[PLAIN]);
     same(group, out[ARCHIVE], out[PLAIN], sizeof out[PLAIN]);
-    printf("%s|capacity %zu, payload %zu|%zu|1\n", group, capacity, payload_bytes, LAMIPEONGA_HEADER_BYTES + payload_bytes);
+    printf("%s|capacity %zu, payload %zu|%zu|1\n", group, capacity, payload_bytes, event_bytes(payload_bytes));
 }
 
 static void measure_create(const char *group, size_t capacity)
@@ -172,7 +217,7 @@ static void measure_create(const char *group, size_t capacity)
     uint32_t answer[2];
 
     ring_bytes = LAMIPEONGA_RING_BYTES(capacity);
-    memset(ring, 0xEE, sizeof ring);
+    spoil(ring, sizeof ring);
     answer[ARCHIVE] = lamipeonga_create(ring[ARCHIVE], ring_bytes, CPU_ID);
     call_ended();
     answer[PLAIN] = plain_create(ring[PLAIN], ring_bytes, CPU_ID);
@@ -185,10 +230,11 @@ static void measure_create(const char *group, size_t capacity)
 static void measure_swap(const char *group, size_t capacity, size_t new_capacity, unsigned long events)
 {
     size_t new_bytes = LAMIPEONGA_RING_BYTES(new_capacity);
+    size_t kept;
     uint32_t answer[2];
 
     hand_to_both();
-    memset(new_ring, 0xEE, sizeof new_ring);
+    spoil(new_ring, sizeof new_ring);
     answer[ARCHIVE] = bench_swap(ring[ARCHIVE], ring_bytes, new_ring[ARCHIVE], new_bytes, record[ARCHIVE], sizeof record[ARCHIVE]);
     call_ended();
     answer[PLAIN] = plain_swap(ring[PLAIN], ring_bytes, new_ring[PLAIN], new_bytes, record[PLAIN], sizeof record[PLAIN]);
@@ -197,7 +243,8 @@ static void measure_swap(const char *group, size_t capacity, size_t new_capacity
     same(group, ring[ARCHIVE], ring[PLAIN], ring_bytes);
     same(group, new_ring[ARCHIVE], new_ring[PLAIN], sizeof new_ring[PLAIN]);
     same(group, record[ARCHIVE], record[PLAIN], sizeof record[PLAIN]);
-    printf("%s|capacity %zu to %zu, %zu bytes kept|%zu|%lu\n", group, capacity, new_capacity, (size_t)number_at(new_ring[PLAIN] + 64), new_bytes, events);
+    kept = (size_t)number_at(new_ring[PLAIN] + 64);
+    printf("%s|capacity %zu to %zu, %lu events, %zu bytes kept|%zu|%lu|%zu\n", group, capacity, new_capacity, events, kept, new_bytes, events, kept);
 }
 
 /* the bytes between tail and write */
@@ -214,7 +261,7 @@ static void measure_record(const char *group, const char *piece, unsigned long e
     uint32_t answer[2];
 
     hand_to_both();
-    memset(new_ring, 0xEE, sizeof new_ring);
+    spoil(new_ring, sizeof new_ring);
     answer[ARCHIVE] = bench_record(ring[ARCHIVE], ring_bytes, placed, new_ring[ARCHIVE], room);
     call_ended();
     answer[PLAIN] = plain_record(ring[PLAIN], ring_bytes, placed, new_ring[PLAIN], room);
@@ -237,7 +284,7 @@ static void emissions(size_t capacity)
         measure_emit("emit, room", capacity, payloads[i]);
     }
     for EACH (i, payloads) {
-        fill(capacity, payloads[i]);
+        fill_up_to(capacity, payloads[i], capacity);
         measure_emit("emit, full, one passed", capacity, payloads[i]);
     }
     for EACH (i, payloads) {
@@ -245,8 +292,13 @@ static void emissions(size_t capacity)
         measure_emit("emit, full of 32 bytes each", capacity, payloads[i]);
     }
     for EACH (i, payloads) {
-        fresh_at(capacity, capacity - (LAMIPEONGA_HEADER_BYTES + payloads[i]) / 2);
+        fresh_at(capacity, half_before_end(capacity, payloads[i]));
         measure_emit("emit, room, half behind the data's end", capacity, payloads[i]);
+    }
+    /* where no byte is left over the event passed lies there too, and with no payload half of its header */
+    for EACH (i, payloads) {
+        fill_up_to(capacity, payloads[i], capacity + half_before_end(capacity, payloads[i]));
+        measure_emit("emit, full, half behind the data's end", capacity, payloads[i]);
     }
 }
 
@@ -256,6 +308,10 @@ static void readings(size_t capacity)
         fill(capacity, payloads[i]);
         measure_read("read", capacity, payloads[i]);
     }
+    for EACH (i, payloads) {
+        fill_at(capacity, payloads[i], half_before_end(capacity, payloads[i]));
+        measure_read("read, half behind the data's end", capacity, payloads[i]);
+    }
 }
 
 static void inspections(size_t capacity)
@@ -264,6 +320,7 @@ static void inspections(size_t capacity)
     measure_inspect("inspect", capacity, 0);
     measure_inspect("inspect", capacity, fill(capacity, 0));
     measure_inspect("inspect", capacity, fill(capacity, 96));
+    measure_inspect("inspect, the first header half behind the data's end", capacity, fill_at(capacity, 0, half_before_end(capacity, 0)));
 }
 
 static void creations(void)
@@ -278,9 +335,13 @@ static void swaps(size_t capacity)
     fresh(capacity);
     measure_swap("swap", capacity, capacity, 0);
     measure_swap("swap", capacity, capacity, fill(capacity, 96));
+    /* as many events twice, the second time four times as large: what a further byte kept takes */
+    fresh(capacity);
+    measure_swap("swap", capacity, capacity, add(96, fitting(capacity, 480)));
     measure_swap("swap", capacity, capacity, fill(capacity, 480));
     measure_swap("swap", capacity, capacity / 4, fill(capacity, 96));
     measure_swap("swap", capacity, capacity * 4, fill(capacity, 96));
+    measure_swap("swap, over the data's end", capacity, capacity, fill_over_the_end(capacity));
 }
 
 /* the whole in one piece, and one inspection of the same ring to set beside it and what follows */
@@ -304,8 +365,8 @@ static void record_pieces(unsigned long events)
 static void record_over_the_end(size_t capacity)
 {
     static const size_t rooms[] = {32, 1024};
-    size_t before_end = capacity / 2 - 64;
-    unsigned long events = fill_at(capacity, 96, capacity - before_end);
+    unsigned long events = fill_over_the_end(capacity);
+    size_t before_end = capacity - (size_t)number_at(ring[PREPARED] + 72);
 
     record_whole(", the whole, over the data's end", events);
     for EACH (i, rooms)
@@ -326,11 +387,14 @@ static void recordings(size_t small, size_t large)
 static void growth(void)
 {
     for (size_t capacity = 256; capacity <= 1048576; capacity *= 4) {
+        unsigned long events;
+
         fresh(capacity);
         measure_emit("growth: emit, room", capacity, 32);
-        fill(capacity, 32);
+        events = fill(capacity, 32);
         measure_emit("growth: emit, full", capacity, 32);
-        measure_inspect("growth: inspect", capacity, fill(capacity, 32));
+        measure_read("growth: read", capacity, 32);
+        measure_inspect("growth: inspect", capacity, events);
     }
 }
 

@@ -2,6 +2,7 @@
 
 mod count;
 mod count_recordings;
+mod count_stretches;
 mod count_wakes;
 mod generate;
 mod ring;
@@ -41,7 +42,8 @@ fn main() -> ExitCode {
 fn count(folder: &Path) -> Result<(), String> {
     count::print(folder)?;
     count_wakes::print(folder)?;
-    count_recordings::print(folder)
+    count_recordings::print(folder)?;
+    count_stretches::print(folder)
 }
 
 /// One byte above the longest script tells that it is too long; the rest need not be held.

@@ -9,6 +9,7 @@ mod pen;
 mod random;
 mod recordings;
 mod sketch;
+mod stretches;
 
 use pen::Pen;
 
@@ -17,12 +18,13 @@ type Kind = (&'static str, u64, fn(&mut Pen));
 
 /// Name and script of each of the stored set.
 pub fn scripts() -> Vec<(&'static str, Vec<u8>)> {
-    let kinds: [Kind; 5] = [
+    let kinds: [Kind; 6] = [
         ("life", 101, life::write),
         ("damage", 202, damage::write),
         ("edges", 303, edges::write),
         ("mixed", 404, mixed::write),
         ("recordings", 505, recordings::write),
+        ("stretches", 606, stretches::write),
     ];
     kinds.into_iter().map(|(name, seed, write)| (name, written(seed, write))).collect()
 }

@@ -45,14 +45,30 @@ impl Pen {
 
     /// Short payloads are random bytes; long ones zeros, which take little room in a script.
     pub fn emit(&mut self, buffer: usize, writer: usize, payload: u64) -> String {
+        if payload > 160 {
+            self.emit_zeros(buffer, writer, payload)
+        } else {
+            self.emit_noise(buffer, writer, payload)
+        }
+    }
+
+    pub fn emit_zeros(&mut self, buffer: usize, writer: usize, payload: u64) -> String {
+        let stamp = self.stamp();
+        self.say(format!("emitlen {buffer} {writer} {stamp} {payload}"))
+    }
+
+    pub fn emit_noise(&mut self, buffer: usize, writer: usize, payload: u64) -> String {
+        let stamp = self.stamp();
+        let bytes = hex(&self.random.bytes(payload));
+        self.say(format!("emit {buffer} {writer} {stamp} {bytes}"))
+    }
+
+    /// Time, type and class.
+    fn stamp(&mut self) -> String {
         let time = self.random.next() >> self.random.below(64);
         let event_type = self.random.next() as u32 >> self.random.below(32);
         let class = self.random.next() as u8;
-        if payload > 160 {
-            return self.say(format!("emitlen {buffer} {writer} {time} {event_type} {class} {payload}"));
-        }
-        let bytes = hex(&self.random.bytes(payload));
-        self.say(format!("emit {buffer} {writer} {time} {event_type} {class} {bytes}"))
+        format!("{time} {event_type} {class}")
     }
 
     pub fn read(&mut self, buffer: usize, reader: usize, lent: u64) -> String {

@@ -28,6 +28,13 @@ impl Random {
         from[self.below(from.len() as u64) as usize]
     }
 
+    pub fn shuffle<T>(&mut self, list: &mut [T]) {
+        for place in (1..list.len()).rev() {
+            let other = self.below(place as u64 + 1) as usize;
+            list.swap(place, other);
+        }
+    }
+
     pub fn bytes(&mut self, count: u64) -> Vec<u8> {
         (0..count).map(|_| self.next() as u8).collect()
     }

@@ -1,4 +1,4 @@
-//! What comes after the closing, after a fault, and after `serial` in the middle of a file.
+//! What comes after the closing and after a fault.
 
 use super::cuts::{at_places, byte_by_byte, end, feed, in_random_cuts, whole};
 use super::recording::Recording;
@@ -9,7 +9,6 @@ pub fn write(pen: &mut Pen) {
         bytes_after_the_closing(pen);
     }
     after_a_fault(pen);
-    begun_anew(pen);
 }
 
 /// In the closing's piece, in a later one, and over both; zeros and a whole recording are no better than noise.
@@ -43,27 +42,5 @@ fn after_a_fault(pen: &mut Pen) {
         in_random_cuts(pen, &sound);
         byte_by_byte(pen, &file);
         end(pen);
-    }
-}
-
-/// At each length of a file; what came before is forgotten.
-fn begun_anew(pen: &mut Pen) {
-    let first = Recording { cpu_id: 0xABCD, events: vec![(34, 7), (33, 1 << 40)] }.bytes(pen);
-    let second = Recording::new(0x0102, &[32, 33]).bytes(pen);
-    for length in 0..=first.len() {
-        feed(pen, &first[..length]);
-        pen.say("serial");
-        if length % 3 == 0 {
-            whole(pen, &second);
-        }
-        if length % 7 == 0 {
-            end(pen);
-        }
-    }
-    // After a fault, too.
-    for length in 8..40 {
-        feed(pen, &second[1..=length]);
-        pen.say("serial");
-        whole(pen, &second[..length]);
     }
 }

@@ -6,11 +6,17 @@ use crate::generate::pen::Pen;
 
 const ROUNDS: usize = 45;
 
+/// Of a header, by which it can be bad.
+const FIELDS: usize = 6;
+
 pub fn write(pen: &mut Pen) {
     for round in 0..ROUNDS {
         for number in 1..=6 {
             one_fault(pen, number, round);
         }
+    }
+    for turn in 0..FIELDS * 24 {
+        one_fault(pen, 4, turn);
     }
 }
 
@@ -87,7 +93,7 @@ pub fn spare_of_closing(pen: &mut Pen, file: &mut [u8], recording: &Recording) {
 /// By turns: event_size, header_size, cpu_id, the three spare bytes.
 pub fn header(pen: &mut Pen, file: &mut [u8], recording: &Recording, index: usize, turn: usize) {
     let at = recording.start(index);
-    match turn % 6 {
+    match turn % FIELDS {
         0 => file[at..at + 4].copy_from_slice(&(1 + pen.random.below(31) as u32).to_le_bytes()),
         1 => {
             let header_size: u16 = pen.random.pick(&[0, 31, 33, 64, 288, 0x2000, u16::MAX]);

@@ -3,6 +3,7 @@
 
 mod after;
 mod altered;
+mod anew;
 mod cut_off;
 mod cuts;
 mod empty;
@@ -28,6 +29,7 @@ pub fn write(pen: &mut Pen) {
     altered::write(pen);
     cut_off::write(pen);
     after::write(pen);
+    anew::write(pen);
     sizes::write(pen);
     large::write(pen);
     wrong::write(pen);

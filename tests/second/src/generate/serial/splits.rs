@@ -4,18 +4,26 @@ use super::cuts::at_places;
 use super::recording::Recording;
 use crate::generate::pen::Pen;
 
-const ROUNDS: usize = 3;
+const ROUNDS: usize = 4;
 
-/// Every header of a file is split after the same number of bytes, so a piece goes from within one to within the next.
 pub fn write(pen: &mut Pen) {
     for round in 0..ROUNDS {
         for bytes in 1..=31 {
-            one_file(pen, bytes, round * 31 + bytes);
+            every_part(pen, bytes, round * 31 + bytes);
+        }
+        for bytes in 1..=23 {
+            closing_alone(pen, bytes);
         }
     }
 }
 
-fn one_file(pen: &mut Pen, bytes: usize, turn: usize) {
+fn closing_alone(pen: &mut Pen, bytes: usize) {
+    let file = Recording::new(pen.random.next() as u16, &[]).bytes(pen);
+    at_places(pen, &file, &[8 + bytes]);
+}
+
+/// Every header of the file is split after the same number of bytes, so a piece goes from within one to within the next.
+fn every_part(pen: &mut Pen, bytes: usize, turn: usize) {
     let sizes: Vec<u64> = (0..4).map(|_| 32 + pen.random.pick(&[0, 0, 1, 7])).collect();
     let recording = Recording::new(pen.random.next() as u16, &sizes);
     let mut places = vec![1 + turn % 7];

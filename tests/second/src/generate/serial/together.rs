@@ -7,28 +7,34 @@ use crate::generate::pen::Pen;
 const ROUNDS: usize = 60;
 
 pub fn write(pen: &mut Pen) {
+    for turn in 0..3 * ROUNDS {
+        in_the_opening(pen, turn);
+    }
     for round in 0..ROUNDS {
-        in_the_opening(pen, round);
         in_a_header(pen, round);
         in_the_closing(pen, round);
         anywhere(pen, round);
     }
 }
 
-fn in_the_opening(pen: &mut Pen, round: usize) {
+/// Mark, version and spare byte: two of them or all three.
+const OF_AN_OPENING: [[bool; 3]; 5] =
+    [[true, true, false], [true, false, true], [false, true, true], [true, true, true], [false, true, true]];
+
+fn in_the_opening(pen: &mut Pen, turn: usize) {
     let (_, mut file) = sound(pen);
-    let (with_mark, with_version) = [(true, true), (true, false), (false, true), (true, true)][round % 4];
+    let [with_mark, with_version, with_spare] = OF_AN_OPENING[turn % 5];
     if with_mark {
         mark(pen, &mut file);
     }
     if with_version {
         version(pen, &mut file);
     }
-    if round % 4 != 3 {
+    if with_spare {
         spare_of_opening(pen, &mut file);
     }
-    // The part itself and little more: what follows can't matter.
-    file.truncate(8 + round % 12);
+    // The opening and little more: what follows can't matter.
+    file.truncate(8 + turn % 12);
     some_way(pen, &file);
 }
 

@@ -22,15 +22,31 @@ fn too_small(pen: &mut Pen) {
     }
 }
 
+/// Sizes with zeros in the low bytes, and those whose payload has only zeros, or 24, in all but the highest.
+const FAR_AHEAD: [u64; 14] = [
+    0x0000_0100,
+    0x0001_0000,
+    0x0001_0020,
+    0x0001_0038,
+    0x0100_0000,
+    0x0100_0020,
+    0x0100_0038,
+    0x0101_0000,
+    0x8000_0000,
+    0x8000_0020,
+    0x8000_0038,
+    0xFF00_0000,
+    0xFFFF_FFFE,
+    0xFFFF_FFFF,
+];
+
 /// The header is told and so is what there is of the payload; then the file has ended early.
 fn far_ahead(pen: &mut Pen) {
-    for size in
-        [256, 0x0001_0000, 0x0100_0000, 0x0101_0000, 0x8000_0000, 0xFF00_0000, u64::from(u32::MAX) - 1, u64::from(u32::MAX)]
-    {
+    for size in FAR_AHEAD {
         let recording = Recording { cpu_id: 0x0020, events: vec![(size, 1 + pen.random.below(9))] };
         let mut file = [recording.opening(), recording.header(pen, 0)].concat();
         whole(pen, &file);
-        // Not taken for the next header or the closing.
+        // Zeros and more that are no closing and no header.
         file.extend_from_slice(&[0; 24]);
         file.extend_from_slice(&pen.random.bytes(40));
         whole(pen, &file);

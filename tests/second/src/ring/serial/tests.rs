@@ -1,6 +1,7 @@
 //! Files worked by hand; a second reading of the request, over a whole file; the longest file.
 
 use super::*;
+use crate::ring;
 
 /// With cpu_id 0x0102.
 const OPENING_BYTES: [u8; 8] = [0x53, 0x50, 0x4C, 1, 0, 2, 1, 0];
@@ -71,12 +72,12 @@ fn the_highest_sequence() {
 
 #[test]
 fn a_recording_of_a_ring() {
-    let mut ring = vec![0; super::super::PAGES + 256];
-    super::super::create(&mut ring, 0x0102).unwrap();
-    let new = super::super::NewEvent { timestamp: 0x0605, event_type: 0x0807, origin_class: 9, payload: &[1, 2] };
-    super::super::emit(&mut ring, Default::default(), &new).unwrap();
+    let mut ring = vec![0; ring::PAGES + 256];
+    ring::create(&mut ring, 0x0102).unwrap();
+    let new = ring::NewEvent { timestamp: 0x0605, event_type: 0x0807, origin_class: 9, payload: &[1, 2] };
+    ring::emit(&mut ring, Default::default(), &new).unwrap();
     let mut output = [0; 66];
-    assert_eq!(super::super::record(&ring, 0, &mut output), Ok(66));
+    assert_eq!(ring::record(&ring, 0, &mut output), Ok(66));
     let payload = Report::Payload { at: 40, length: 2 };
     let told = vec![Report::Header(header(34, 1)), payload, Report::Closing { handed: 1, missed: 0 }];
     assert_eq!(read(&output), (told, None));

@@ -1,0 +1,3 @@
+pub mod Recordings
+pub mod Fitting
+pub mod Rings

@@ -1,3 +1,4 @@
 pub mod Recordings
 pub mod Fitting
 pub mod Rings
+pub mod Converse

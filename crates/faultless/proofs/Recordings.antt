@@ -1,11 +1,10 @@
 -- A recording is read without fault: the opening's rows pass, then each event is told in turn (`events-read`, by induction on the events), then the closing's rows pass.
 use Prim.Native.Nat.{ℕ, suc, _+_, _-_, _^_, _≤_, _<_}
 use native.Mathlib.Omega.{arith}
-use mathlib.Core.Path.{_≡_, refl, sym, ap, ap₂, subst, _∙_}
-use mathlib.Core.List.{List, [], _∷_, _++_, append-assoc, append-nil}
+use mathlib.Core.Path.{_≡_, ap, ap₂, _∙_}
+use mathlib.Core.List.{List, [], _∷_, _++_, append-assoc}
 use lib.ListN.{length, getD, take, drop, length-append, length-drop}
 use lib.Seq.{take-append-le, drop-append-le, drop-at}
-use lib.Dec.{eqb}
 use Rattle.table_rules.proofs.Facts.{Passes}
 use Rattle.table_rules.proofs.Laws.{passes}
 use Rattle.word_rules.proofs.Reading.{number-split, number-front}
@@ -14,19 +13,16 @@ use Rattle.run_rules.proofs.Rising.{rising-length}
 use Rattle.event_rules.specs.Event.{eventSize, sequence}
 use Rattle.event_rules.specs.Run.{joined, One}
 use Rattle.event_rules.proofs.Facts.{Whole}
-use Rattle.event_rules.proofs.Front.{one-long, size-front, sequence-front, length-joined}
+use Rattle.event_rules.proofs.Front.{one-long, size-front, sequence-front}
 use Rattle.format_rules.specs.Format.{opening, closing, missedOf, recording}
 use Rattle.format_rules.proofs.Facts.{OpeningSays, ClosingSays}
-use Rattle.format_rules.proofs.Parts.{opening-length, opening-says, closing-length, closing-says}
+use Rattle.format_rules.proofs.Parts.{opening-says, closing-says}
 use Rattle.reading_rules.specs.Parts.{openingRows, headerRows, closingRows}
 use Rattle.reading_rules.specs.Account.{Head, Counts, Account, say, silence, faultAt, stretch, readItems, accountOf}
-use Rattle.reading_rules.specs.Faultless.{NoFault, Faultless}
-use Rattle.reading_rules.specs.declared.Ending.the-variants as ending
-use Rattle.reading_rules.proofs.Cases.{by-test}
 use Rattle.reading_rules.proofs.Items.{items-closing, items-header}
 use Rattle.reading_rules.proofs.Steps.{opening-whole, payload-all, closing-whole, after-none}
 use Rattle.reading_rules.proofs.Passing.{opening-front, header-front, opening-passes, closing-passes, header-passes}
-use Rattle.faultless.specs.Sound.{eventsTold, recordingTold, Recordable, SoundRecordings}
+use Rattle.faultless.specs.Sound.{eventsTold, recordingTold, SoundRecordings}
 
 closing-read : (cpu at events last : ℕ) → events < 2 ^ 64 → last - events < 2 ^ 64
     → readItems cpu at events last (closing events (last - events)) ≡ say (Counts events (last - events)) silence

@@ -2,14 +2,13 @@
 -- fault is among what is told of a recording (`told-well`, by induction on the events).
 use Prim.Native.Nat.{ℕ, _+_, _-_, _^_, _<_}
 use native.Mathlib.Omega.{arith}
-use mathlib.Core.Path.{_≡_, refl, sym, ap, subst, _∙_}
+use mathlib.Core.Path.{_≡_, refl, sym, subst}
 use mathlib.Core.List.{List, [], _∷_}
-use lib.ListN.{length, getD}
+use lib.ListN.{length}
 use lib.Dec.{eqb}
 use Rattle.word_rules.proofs.Reading.{number-bound}
 use Rattle.page_rules.specs.Page.{pageOf}
 use Rattle.page_rules.specs.declared.Page.{Page}
-use Rattle.event_rules.specs.Run.{joined}
 use Rattle.region_rules.proofs.Bytes.{bytes-small}
 use Rattle.look_rules.specs.Live.{rest, live}
 use Rattle.inspect_rules.specs.Inspect.{walked}
@@ -24,7 +23,7 @@ use Rattle.faultless.specs.Sound.{eventsTold, recordingTold, Recordable,
 use Rattle.faultless.proofs.Fitting.{Bytes, events-fit}
 use Rattle.faultless.proofs.Recordings.{sound-recordings}
 
-abbrev Clean : Account → Type 0
+abbrev pub Clean : Account → Type 0
 Clean x = NoFault (x .reports) × (x .end ≡ ending.Nothing)
 
 events-well : (at : ℕ) (events : List (List ℕ)) (next : Account) → Clean next → Clean (eventsTold at events next)

@@ -2,3 +2,5 @@ pub mod Recordings
 pub mod Fitting
 pub mod Rings
 pub mod Converse
+pub mod Ends
+pub mod Alone

@@ -1,0 +1,6 @@
+pub mod Recordings
+pub mod Fitting
+pub mod Rings
+pub mod Converse
+pub mod Ends
+pub mod Alone

@@ -30,7 +30,7 @@ module _ (cpu : ℕ) (events : List (List ℕ)) (fit : Recordable cpu events) wh
   tells-cpu =
       ap (λ (file : List ℕ). number file 5 2) parted
       ∙ number-front (opening cpu) (joined events ++ end) 5 2 (omega (arith, opening-length cpu))
-      ∙ opening-says cpu (fit .cpu-fits) .cpu-is
+      ∙ opening-says cpu (omega (arith, fit .cpu-fits)) .cpu-is
 
   tells-events : soundRun cpu 0 (drop 8 (recording cpu events)) ≡ events
   tells-events =

@@ -16,7 +16,7 @@ abbrev pub OnlyRecordings : Type 0
 OnlyRecordings = (file : List ℕ) → ((i : ℕ) → getD file i 0 < 256) → Faultless file
     → (is : IsRecording file) × (accountOf file ≡ recordingTold (is .events))
 
--- one thing
+-- and the other way
 abbrev pub FaultlessMeans : Type 0
 FaultlessMeans = (file : List ℕ) → ((i : ℕ) → getD file i 0 < 256) → Faultless file ↔ IsRecording file
 

@@ -5,7 +5,7 @@ use native.Mathlib.Nat.{not-suc-le-zero}
 use native.Mathlib.Omega.{arith}
 use mathlib.Core.Path.{_≡_, refl, sym, ap, ap₂, subst, _∙_}
 use mathlib.Core.Logic.{_⊎_, inl, inr, ⊎-elim}
-use mathlib.Core.Bool.{Bool, true, false}
+use mathlib.Core.Bool.{Bool, true, false, cond}
 use mathlib.Core.List.{List, [], _∷_, _++_, append-nil}
 use lib.ListN.{length, take, drop, length-append, length-drop, take-append-drop}
 use lib.Seq.{take-append-le, drop-append-le, drop-drop, length-take-le}
@@ -155,7 +155,7 @@ module _ (kind : Fault) (place : ℕ) where
     closing-part read bs long reads =
         let counts : List ℕ → Told = λ cs. Counts (closingHanded cs) (closingMissed cs) in
         let next : List ℕ → Account = λ cs. say (counts cs) (readAfter (at + 24) (drop 24 cs)) in
-        let spare : extent fault.Spare at ≡ 24 = rw (ne-eqb at 0 (λ (z : at ≡ 0). omega arith)) in
+        let spare : extent fault.Spare at ≡ 24 = ap (λ (begins : Bool). cond begins 8 24) (ne-eqb at 0 (λ (z : at ≡ 0). omega arith)) in
         table-part at 24 (at + 24) (closingRows count last bs) read next bs long (omega arith) (spare, (refl, tt))
         (λ front rest split here more.
         let same : closingRows count last (front ++ more) ≡ closingRows count last bs =

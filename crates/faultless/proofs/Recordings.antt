@@ -96,7 +96,7 @@ sound-recordings cpu events fit =
     let end : List ℕ = closing n (missedOf events) in
     let none : 0 + n ≡ n = omega arith in
     ap accountOf (append-assoc (opening cpu) (joined events) end)
-    ∙ opening-read cpu (joined events ++ end) (fit .cpu-fits)
+    ∙ opening-read cpu (joined events ++ end) (omega (arith, fit .cpu-fits))
     ∙ events-read cpu 8 0 0 events end (fit .each, fit .rising) (fit .sizes-fit)
     ∙ ap (λ (k : ℕ). eventsTold 8 events (readItems cpu (8 + length (joined events)) k last end)) none
     ∙ ap (eventsTold 8 events)

@@ -16,6 +16,11 @@ abbrev pub OnlyRecordings : Type 0
 OnlyRecordings = (file : List ℕ) → ((i : ℕ) → getD file i 0 < 256) → Faultless file
     → (is : IsRecording file) × (accountOf file ≡ recordingTold (is .events))
 
--- one thing
+-- and the other way
 abbrev pub FaultlessMeans : Type 0
 FaultlessMeans = (file : List ℕ) → ((i : ℕ) → getD file i 0 < 256) → Faultless file ↔ IsRecording file
+
+-- and no two lists of events share a recording
+abbrev pub NoTwoAlike : Type 0
+NoTwoAlike = (cpu other : ℕ) (events others : List (List ℕ)) → Recordable cpu events → Recordable other others
+    → recording cpu events ≡ recording other others → (cpu ≡ other) × (events ≡ others)

@@ -1,6 +1,7 @@
 // The lines of a script in order.
 use replay_one::on_one;
 use replay_one::on_size;
+use replay_serial::on_listener;
 use replay_setting::records;
 use replay_state::say;
 use replay_state::state::State;
@@ -29,6 +30,7 @@ fn step(
             say::sum(out);
             state
         }
+        Command::Serial(word) => on_listener(word, line, state),
         Command::Size => on_size(line, state, first, second, third, fourth),
         Command::Swap => on_two(line, state, first, second, third, fourth),
         _ => on_one(found, line, state, first, second, third, fourth, out),

@@ -1,0 +1,125 @@
+// The lines on the listener: the one to whom a script feeds recordings in pieces.
+use faults::fault_number;
+use reading_rules::Ending;
+use reading_rules::Fault;
+use replay_state::room::buffer_room;
+use replay_state::say;
+use replay_state::state::State;
+use replay_state::state::unknown;
+use replay_state::state::with_listener;
+use replay_words::Serial;
+use script::field::field;
+use script::hex::hex;
+use serial::listener::fresh;
+use serial_rules::Listener;
+use serial_rules::Report;
+use table_rules::Refusal;
+ghost use mathlib.Core.Path.{_≡_};
+ghost use Rattle.serial_rules.specs.Feed.{feed};
+
+fn fault(kind: Fault, place: u64) {
+    say::number(b" fault ", fault_number(kind));
+    say::number(b" at ", place);
+}
+
+// A header that stands in the piece has 32 bytes there.
+fn header(piece: &[u8]) {
+    say::words(b" header ");
+    if 32 <= piece.len() {
+        say::bytes(&piece[0..32]);
+    }
+}
+
+// What a step over `piece` tells, after which `kept` is kept.
+fn tell(report: Report, kept: [u8; 32], piece: &[u8]) {
+    match report {
+        Report::Nothing => {}
+        Report::Head => header(piece),
+        Report::KeptHead => header(&kept),
+        Report::Stretch(at, length) => {
+            say::number(b" payload ", at);
+            say::number(b" ", length);
+        }
+        Report::Counts(handed, missed) => {
+            say::number(b" closing ", handed);
+            say::number(b" ", missed);
+        }
+        Report::Fault(kind, place) => fault(kind, place),
+        Report::Refused => {}
+    }
+}
+
+// A piece is used up by stepping, and each step's report is said at once. A step that uses nothing was refused, and so would be every further one.
+fn take(l: Listener, piece: &[u8]) -> Listener
+    ensures { λ r. ⌜ r ≡ feed l (now (piece .entry)) .listener ⌝ }
+{
+    let mut listener = l;
+    let mut at = 0;
+    while at < piece.len() {
+        let s = serial::step(listener, &piece[at..]);
+        let used = s.used;
+        if used == 0 {
+            return listener;
+        }
+        let report = s.report;
+        let next = s.listener;
+        let kept = next.kept;
+        tell(report, kept, &piece[at..]);
+        listener = next;
+        at += used;
+    }
+    listener
+}
+
+// 9 is asked of the whole piece, so a piece that isn't refused at its first step is refused at none.
+fn answer(l: Listener, piece: &[u8]) -> Listener
+    ensures { λ r. ⌜ r ≡ feed l (now (piece .entry)) .listener ⌝ }
+{
+    let s = serial::step(l, piece);
+    let report = s.report;
+    match report {
+        Report::Refused => say::refusal(Refusal::Far),
+        _ => say::words(b"fed"),
+    }
+    take(l, piece)
+}
+
+fn feed(line: &[u8], state: State) -> State
+    ensures { λ r. ⌜ (r .lengths ≡ state .lengths) × (r .writers ≡ state .writers) × (r .readers ≡ state .readers) ⌝ }
+{
+    let mut bytes = buffer_room();
+    let n = hex(field(line, 1), &mut bytes);
+    if n > 40960 {
+        return unknown(state);
+    }
+    let listener = state.listener;
+    let next = answer(listener, &bytes[0..n]);
+    say::words(b"\n");
+    with_listener(state, next)
+}
+
+fn end(state: State) -> State
+    ensures { λ r. ⌜ (r .lengths ≡ state .lengths) × (r .writers ≡ state .writers) × (r .readers ≡ state .readers) ⌝ }
+{
+    let listener = state.listener;
+    say::words(b"ended");
+    match serial::end(listener) {
+        Ending::Nothing => {}
+        Ending::Early(place) => fault(Fault::Early, place),
+    }
+    say::words(b"\n");
+    with_listener(state, fresh())
+}
+
+pub fn on_listener(word: Serial, line: &[u8], state: State) -> State
+    ensures { λ r. ⌜ (r .lengths ≡ state .lengths) × (r .writers ≡ state .writers) × (r .readers ≡ state .readers) ⌝ }
+{
+    match word {
+        Serial::Fresh => {
+            say::words(b"ok\n");
+            with_listener(state, fresh())
+        }
+        Serial::Feed => feed(line, state),
+        Serial::End => end(state),
+    }
+}

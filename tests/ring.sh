@@ -177,7 +177,7 @@ try 'a crash' 2 out 'ring: sums ended with status 5' "acts='echo out; printf 0 >
 # the programs of the tree itself, each with a word on what it does
 tried=$((tried + 1))
 named=$(./ring 2>&1 | sed -n 's/^  \([a-z_]*\( \[FILE\]\)\?\)  *[A-Z].*/\1/p')
-[ "$named" = $'listing [FILE]\nrecord [FILE]\nreplay [FILE]\nsums' ] || fail "the programs are named as: $named"
+[ "$named" = $'far\nlisting [FILE]\nrecord [FILE]\nreplay [FILE]\nsums' ] || fail "the programs are named as: $named"
 
 if [ "$failed" -ne 0 ]; then
     exit 1

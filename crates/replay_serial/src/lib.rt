@@ -1,5 +1,6 @@
 // The lines on the listener: the one to whom a script feeds recordings in pieces.
-use faults::fault_number;
+use crate::tell::fault;
+use crate::tell::report;
 use reading_rules::Ending;
 use reading_rules::Fault;
 use replay_state::room::buffer_room;
@@ -17,37 +18,7 @@ use table_rules::Refusal;
 ghost use mathlib.Core.Path.{_≡_};
 ghost use Rattle.serial_rules.specs.Feed.{feed};
 
-fn fault(kind: Fault, place: u64) {
-    say::number(b" fault ", fault_number(kind));
-    say::number(b" at ", place);
-}
-
-// A header that stands in the piece has 32 bytes there.
-fn header(piece: &[u8]) {
-    say::words(b" header ");
-    if 32 <= piece.len() {
-        say::bytes(&piece[0..32]);
-    }
-}
-
-// What a step over `piece` tells, after which `kept` is kept.
-fn tell(report: Report, kept: [u8; 32], piece: &[u8]) {
-    match report {
-        Report::Nothing => {}
-        Report::Head => header(piece),
-        Report::KeptHead => header(&kept),
-        Report::Stretch(at, length) => {
-            say::number(b" payload ", at);
-            say::number(b" ", length);
-        }
-        Report::Counts(handed, missed) => {
-            say::number(b" closing ", handed);
-            say::number(b" ", missed);
-        }
-        Report::Fault(kind, place) => fault(kind, place),
-        Report::Refused => {}
-    }
-}
+pub mod tell;
 
 // A piece is used up by stepping, and each step's report is said at once. A step that uses nothing was refused, and so would be every further one.
 fn take(l: Listener, piece: &[u8]) -> Listener
@@ -61,10 +32,10 @@ fn take(l: Listener, piece: &[u8]) -> Listener
         if used == 0 {
             return listener;
         }
-        let report = s.report;
+        let told = s.report;
         let next = s.listener;
         let kept = next.kept;
-        tell(report, kept, &piece[at..]);
+        report(told, kept, &piece[at..]);
         listener = next;
         at += used;
     }
@@ -76,8 +47,8 @@ fn answer(l: Listener, piece: &[u8]) -> Listener
     ensures { λ r. ⌜ r ≡ feed l (now (piece .entry)) .listener ⌝ }
 {
     let s = serial::step(l, piece);
-    let report = s.report;
-    match report {
+    let told = s.report;
+    match told {
         Report::Refused => say::refusal(Refusal::Far),
         _ => say::words(b"fed"),
     }

@@ -9,6 +9,7 @@ use writer_rules::Writer;
 ghost use mathlib.Core.Path.{_≡_};
 ghost use Prim.Native.Nat.{_≤_};
 ghost use lib.ListN.{set, replicate};
+ghost use Rattle.serial_rules.specs.Step.{fresh as nothingHeard};
 ghost use Rattle.writer_rules.specs.Writer.{zeros as noneWritten};
 ghost use Rattle.reader_rules.specs.Reader.{readerWith};
 
@@ -24,7 +25,7 @@ pub fn fresh() -> State
     ensures lengths { λ r. ⌜ r .lengths ≡ replicate 4 0 ⌝ }
     ensures writers { λ r. ⌜ r .writers ≡ replicate 4 noneWritten ⌝ }
     ensures readers { λ r. ⌜ r .readers ≡ replicate 4 (readerWith 0 0 0 0) ⌝ }
-    ensures listener { λ r. ⌜ r .listener ≡ Rattle.serial_rules.specs.Step.fresh ⌝ }
+    ensures listener { λ r. ⌜ r .listener ≡ nothingHeard ⌝ }
 {
     let writer = zeros();
     let reader = reader_with(0, 0, 0, 0);

@@ -5,9 +5,6 @@ use reading_rules::Ending;
 use reading_rules::Fault;
 use replay_state::room::buffer_room;
 use replay_state::say;
-use replay_state::state::State;
-use replay_state::state::unknown;
-use replay_state::state::with_listener;
 use replay_words::Serial;
 use script::field::field;
 use script::hex::hex;
@@ -17,6 +14,7 @@ use serial_rules::Report;
 use table_rules::Refusal;
 ghost use mathlib.Core.Path.{_≡_};
 ghost use Rattle.serial_rules.specs.Feed.{feed};
+ghost use Rattle.serial_rules.specs.Step.{fresh as nothingHeard};
 
 pub mod tell;
 
@@ -55,42 +53,40 @@ fn answer(l: Listener, piece: &[u8]) -> Listener
     take(l, piece)
 }
 
-fn feed(line: &[u8], state: State) -> State
-    ensures { λ r. ⌜ (r .lengths ≡ state .lengths) × (r .writers ≡ state .writers) × (r .readers ≡ state .readers) ⌝ }
-{
+// A line with a wrong field changes nothing.
+fn feed(line: &[u8], l: Listener) -> Listener {
     let mut bytes = buffer_room();
     let n = hex(field(line, 1), &mut bytes);
     if n > 40960 {
-        return unknown(state);
+        say::words(b"unknown\n");
+        return l;
     }
-    let listener = state.listener;
-    let next = answer(listener, &bytes[0..n]);
+    let next = answer(l, &bytes[0..n]);
     say::words(b"\n");
-    with_listener(state, next)
+    next
 }
 
-fn end(state: State) -> State
-    ensures { λ r. ⌜ (r .lengths ≡ state .lengths) × (r .writers ≡ state .writers) × (r .readers ≡ state .readers) ⌝ }
+// The next piece begins another file.
+fn end(l: Listener) -> Listener
+    ensures { λ r. ⌜ r ≡ nothingHeard ⌝ }
 {
-    let listener = state.listener;
     say::words(b"ended");
-    match serial::end(listener) {
+    match serial::end(l) {
         Ending::Nothing => {}
         Ending::Early(place) => fault(Fault::Early, place),
     }
     say::words(b"\n");
-    with_listener(state, fresh())
+    fresh()
 }
 
-pub fn on_listener(word: Serial, line: &[u8], state: State) -> State
-    ensures { λ r. ⌜ (r .lengths ≡ state .lengths) × (r .writers ≡ state .writers) × (r .readers ≡ state .readers) ⌝ }
-{
+// No buffer and no record comes here, so none is touched.
+pub fn on_listener(word: Serial, line: &[u8], l: Listener) -> Listener {
     match word {
         Serial::Fresh => {
             say::words(b"ok\n");
-            with_listener(state, fresh())
+            fresh()
         }
-        Serial::Feed => feed(line, state),
-        Serial::End => end(state),
+        Serial::Feed => feed(line, l),
+        Serial::End => end(l),
     }
 }

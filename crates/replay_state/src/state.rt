@@ -2,30 +2,25 @@
 use crate::say::words;
 use reader_record::reader_with;
 use reader_rules::Reader;
-use serial::listener;
-use serial_rules::Listener;
 use writer::zeros;
 use writer_rules::Writer;
 ghost use mathlib.Core.Path.{_≡_};
 ghost use Prim.Native.Nat.{_≤_};
 ghost use lib.ListN.{set, replicate};
-ghost use Rattle.serial_rules.specs.Step.{fresh as nothingHeard};
 ghost use Rattle.writer_rules.specs.Writer.{zeros as noneWritten};
 ghost use Rattle.reader_rules.specs.Reader.{readerWith};
 
-// How many bytes of each buffer are in use, the records, and the listener to whom recordings are fed.
+// How many bytes of each buffer are in use, and the records.
 pub struct State {
     pub lengths: [usize; 4],
     pub writers: [Writer; 4],
     pub readers: [Reader; 4],
-    pub listener: Listener,
 }
 
 pub fn fresh() -> State
     ensures lengths { λ r. ⌜ r .lengths ≡ replicate 4 0 ⌝ }
     ensures writers { λ r. ⌜ r .writers ≡ replicate 4 noneWritten ⌝ }
     ensures readers { λ r. ⌜ r .readers ≡ replicate 4 (readerWith 0 0 0 0) ⌝ }
-    ensures listener { λ r. ⌜ r .listener ≡ nothingHeard ⌝ }
 {
     let writer = zeros();
     let reader = reader_with(0, 0, 0, 0);
@@ -33,7 +28,6 @@ pub fn fresh() -> State
         lengths: [0; 4],
         writers: [writer; 4],
         readers: [reader; 4],
-        listener: listener::fresh(),
     }
 }
 
@@ -42,7 +36,6 @@ pub fn with_length(state: State, b: usize, length: usize) -> State
     ensures lengths { λ r. ⌜ r .lengths ≡ set (state .lengths) b length ⌝ }
     ensures writers { λ r. ⌜ r .writers ≡ state .writers ⌝ }
     ensures readers { λ r. ⌜ r .readers ≡ state .readers ⌝ }
-    ensures listener { λ r. ⌜ r .listener ≡ state .listener ⌝ }
 {
     let mut next = state;
     next.lengths[b] = length;
@@ -54,7 +47,6 @@ pub fn with_writer(state: State, w: usize, writer: Writer) -> State
     ensures lengths { λ r. ⌜ r .lengths ≡ state .lengths ⌝ }
     ensures writers { λ r. ⌜ r .writers ≡ set (state .writers) w writer ⌝ }
     ensures readers { λ r. ⌜ r .readers ≡ state .readers ⌝ }
-    ensures listener { λ r. ⌜ r .listener ≡ state .listener ⌝ }
 {
     let mut next = state;
     next.writers[w] = writer;
@@ -66,21 +58,9 @@ pub fn with_reader(state: State, r: usize, reader: Reader) -> State
     ensures lengths { λ next. ⌜ next .lengths ≡ state .lengths ⌝ }
     ensures writers { λ next. ⌜ next .writers ≡ state .writers ⌝ }
     ensures readers { λ next. ⌜ next .readers ≡ set (state .readers) r reader ⌝ }
-    ensures listener { λ next. ⌜ next .listener ≡ state .listener ⌝ }
 {
     let mut next = state;
     next.readers[r] = reader;
-    next
-}
-
-pub fn with_listener(state: State, listener: Listener) -> State
-    ensures lengths { λ r. ⌜ r .lengths ≡ state .lengths ⌝ }
-    ensures writers { λ r. ⌜ r .writers ≡ state .writers ⌝ }
-    ensures readers { λ r. ⌜ r .readers ≡ state .readers ⌝ }
-    ensures listener { λ r. ⌜ r .listener ≡ listener ⌝ }
-{
-    let mut next = state;
-    next.listener = listener;
     next
 }
 

@@ -19,7 +19,7 @@ use Rattle.serial_rules.proofs.Touch.{onto, made-one}
 use Rattle.serial_rules.proofs.Settled.{whole-settled}
 use Rattle.serial_rules.proofs.Rest.{rest}
 use Rattle.serial_rules.proofs.Moves.{stepped-never, stepped-far, stepped-none, refused-only}
-use Rattle.serial_rules.proofs.Feeding.{Fine, nothing-fed, fed-then, feed-good, feed-none, feed-stuck, end-is}
+use Rattle.serial_rules.proofs.Feeding.{Fine, nothing-fed, fed-then, feed-good, feed-empty, feed-stuck, end-is}
 use Rattle.cuts.specs.Cut.{Taken, HoweverCut, NoBytes, Refusals, RefusedLate}
 
 -- ---- refusal
@@ -42,7 +42,7 @@ near l piece sound taken =
     (le-or-lt (arrived l + length piece) (2 ^ 62))
 
 pub no-bytes : NoBytes
-no-bytes l = (feed-none l, ⊎-elim can (λ (e : possible l ≡ false). ap (λ (s : Step). s .listener) (stepped-never l [] e)) (either (possible l)))
+no-bytes l = (feed-empty l [] refl, ⊎-elim can (λ (e : possible l ≡ false). ap (λ (s : Step). s .listener) (stepped-never l [] e)) (either (possible l)))
   where
     can : possible l ≡ true → stepped l [] .listener ≡ l
     can e =

@@ -1,5 +1,5 @@
--- Turn by turn: what is left of the piece, fed to the listener that has come out so far, leaves what the whole piece does (`feed-on`); a step that uses
--- nothing was refused (`feed-stuck`), and with nothing left the listener stays (`feed-none`).
+-- Turn by turn: what is left of the piece, fed to the listener that has come out so far, leaves what the whole piece does (`feed-step`); a step that uses
+-- nothing was refused (`feed-idle`), and with nothing left the listener stays (`feed-empty`).
 use Prim.Native.Nat.{ℕ, _+_, _-_, _≤_, _<_}
 use native.Mathlib.Omega.{arith}
 use mathlib.Core.Path.{_≡_, refl, sym, ap, _∙_}
@@ -11,13 +11,15 @@ use Rattle.serial_rules.specs.Feed.{feed}
 use Rattle.serial_rules.specs.Step.{stepped}
 use Rattle.serial_rules.specs.declared.Step.{Step}
 use Rattle.serial_rules.specs.declared.Listener.{Listener}
-use Rattle.replay_serial.proofs.Loop.{feed-none, feed-stuck, step-within, feed-on}
+use Rattle.serial_rules.specs.Feed.{Fed}
+use Rattle.serial_rules.proofs.Feeding.{feed-empty, feed-idle, step-within, step-keeps, feed-step}
 use borrow.Author.Needs.{needs}
 use Rattle.replay_serial.proofs.take.Statement.{statement}
 use Rattle.replay_serial.proofs.take.Tie as tie
 
 abbrev Inv-loop : tie.InvT-loop
-Inv-loop piece listener₀ at₀ listener at = (at ≤ length piece) × (feed listener₀ piece .listener ≡ feed listener (drop at piece) .listener)
+Inv-loop piece listener₀ at₀ listener at =
+    (at ≤ length piece) × (length (listener .kept) ≡ 32) × (feed listener₀ piece .listener ≡ feed listener (drop at piece) .listener)
 
 abbrev μ-loop : tie.MeasureT-loop
 μ-loop piece listener₀ at₀ listener at = length piece - at
@@ -52,16 +54,19 @@ used-is : (c : Stepped) → stepped (heard c) (part c) .used ≡ c .step .result
 used-is c = ap (λ (s : Step). s .used) (sym (step-is c))
 
 within : (c : Stepped) → place c + c .step .result .used ≤ length (whole c)
-within c = omega (arith, used-is c, part-length c, step-within (heard c) (part c) (some c))
+within c = omega (arith, used-is c, part-length c, step-within (heard c) (part c) (c .before .before .before .loop .inv .1) (some c))
 
 again : (c : Stepped) → (c .step .result .used ≡ 0 → ⊥)
     → (place c + c .step .result .used ≤ length (whole c))
+    × (length (c .step .result .listener .kept) ≡ 32)
     × (feed (c .before .before .before .before .before .args .l) (whole c) .listener
     ≡ feed (c .step .result .listener) (drop (place c + c .step .result .used) (whole c)) .listener)
 again c uses =
-    let moved : 0 < stepped (heard c) (part c) .used = omega (arith, used-is c, uses) in (
+    let long : length (heard c .kept) ≡ 32 = c .before .before .before .loop .inv .1 in (
       within c,
-      c .before .before .before .loop .inv .1 ∙ feed-on (heard c) (part c) (some c) moved
+      ap (λ (s : Step). length (s .listener .kept)) (step-is c) ∙ step-keeps (heard c) (part c) long (some c),
+      c .before .before .before .loop .inv .2
+          ∙ ap (λ (fed : Fed). fed .listener) (feed-step (heard c) (part c) long (some c) (λ (none : stepped (heard c) (part c) .used ≡ 0). uses (sym (used-is c) ∙ none)))
           ∙ ap (λ (s : Step). feed (s .listener) (drop (s .used) (part c)) .listener) (sym (step-is c))
           ∙ ap (λ (rest : List ℕ). feed (c .step .result .listener) rest .listener) (drop-drop (c .step .result .used) (place c) (whole c)),
     )
@@ -86,7 +91,10 @@ step-requires : tie.Need-step-requires Inv-loop μ-loop
 step-requires c κs = search needs
 
 returns : tie.Need-returns Inv-loop μ-loop
-returns c = let s = c .before in sym (s .before .before .before .loop .inv .1 ∙ feed-stuck (heard s) (part s) (some s) (used-is s ∙ c .if1 .taken))
+returns c =
+    let s = c .before in
+    let turn = s .before .before .before .loop .inv in
+    sym (turn .2 ∙ ap (λ (fed : Fed). fed .listener) (feed-idle (heard s) (part s) (turn .1) (some s) (used-is s ∙ c .if1 .taken)))
 
 sub-report : tie.Need-sub-report Inv-loop μ-loop
 sub-report c = search needs
@@ -113,7 +121,8 @@ returns-2 : tie.Need-returns-2 Inv-loop μ-loop
 returns-2 c =
     let l = c .before .loop in
     let piece = now (c .before .before .before .args .piece) in
-    sym (l .inv .1 ∙ feed-none (l .listener) (drop (l .at) piece) (omega (arith, length-drop (l .at) piece)))
+    let rest = drop (l .at) piece in
+    sym (l .inv .2 ∙ ap (λ (fed : Fed). fed .listener) (feed-empty (l .listener) rest (omega (arith, length-drop (l .at) piece))))
 
 pub take-spec : {M : Type 1} → statement M
 take-spec =

@@ -128,21 +128,6 @@ pub record Hears (l₀ : Listener) (piece : List ℕ) (sum₀ : ℕ) (l : Listen
 pub hears-start : (l : Listener) (piece : List ℕ) (sum : ℕ) → length (l .kept) ≡ 32 → sum < 2 ^ 64 → Hears l piece sum l 0 sum
 hears-start l piece sum long fits = record { within = omega arith; long = long; fits = fits; same = refl }
 
--- the same turn, with its parts named anew
-pub hears-as : (l₀ : Listener) (piece : List ℕ) (sum₀ : ℕ) (l m : Listener) (at there sum total : ℕ) → Hears l₀ piece sum₀ l at sum → m ≡ l → there ≡ at
-    → total ≡ sum → Hears l₀ piece sum₀ m there total
-hears-as l₀ piece sum₀ l m at there sum total hears state-is at-is sum-is =
-    record {
-      within = omega (arith, hears .within);
-      long = ap (λ (x : Listener). length (x .kept)) state-is ∙ hears .long;
-      fits = omega (arith, hears .fits);
-      same =
-          hears .same
-          ∙ ap (λ (x : Listener). heard x (drop at piece) sum) (sym state-is)
-          ∙ ap (λ (n : ℕ). heard m (drop n piece) sum) (sym at-is)
-          ∙ ap (heard m (drop there piece)) (sym sum-is);
-    }
-
 module _ (l₀ : Listener) (piece : List ℕ) (sum₀ : ℕ) (l : Listener) (at sum : ℕ) (hears : Hears l₀ piece sum₀ l at sum) where
   pub hears-end : length piece ≤ at → left l sum ≡ heard l₀ piece sum₀
   hears-end all =
@@ -258,18 +243,3 @@ module _ (c₀ : Course) (piece : List ℕ) (from sum₀ : ℕ) (c : Course) (at
               (pos (s .used) uses) (number-is ∙ ap (λ (bs : List ℕ). strideNumber (s .report) bs % 2 ^ 64) (rest-is at piece)) total-is kept long
               ∙ ap (λ (bs : List ℕ). heard (resting (s .course) kept) bs total) (drop-drop (s .used) at piece);
         }
-
--- strides lead the loop of steps on
-pub hears-run : (l₀ : Listener) (piece : List ℕ) (sum₀ : ℕ) (l : Listener) (at sum : ℕ) → Hears l₀ piece sum₀ l at sum → l .held ≡ 0
-    → (c : Course) (there total : ℕ) → there ≤ length piece → total < 2 ^ 64
-    → Alike (l .course) (drop at piece) sum c (drop there piece) total → Hears l₀ piece sum₀ (resting c (l .kept)) there total
-hears-run l₀ piece sum₀ l at sum hears none c there total within fits same =
-    record {
-      within = within;
-      long = hears .long;
-      fits = fits;
-      same =
-          hears .same
-          ∙ ap (λ (n : ℕ). heard (record { course = l .course; held = n; kept = l .kept }) (drop at piece) sum) none
-          ∙ same (l .kept) (hears .long);
-    }

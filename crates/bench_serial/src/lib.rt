@@ -1,7 +1,6 @@
-// A whole file listened to in pieces of one size, for the measurement in bench/ alone: by strides wherever they can be made, or by steps alone.
-// Every report goes into one sum, so that none can be left out.
+// A whole file listened to in pieces of one size, for the measurement in bench/ alone: by strides wherever they can be made, else by steps. Every report
+// goes into one sum, so that none can be left out.
 use crate::hear::hear;
-use crate::hear::hear_steps;
 use reading_rules::Ending;
 use serial::end;
 use serial::listener::fresh;
@@ -48,16 +47,8 @@ fn least(a: usize, b: usize) -> usize
     b
 }
 
-fn hear_piece(strides: bool, listener: Listener, piece: &[u8], sum: u64) -> Hearing
-    ensures { λ r. ⌜ r ≡ heard listener (now (piece .entry)) sum ⌝ }
-{
-    if strides {
-        return hear(listener, piece, sum);
-    }
-    hear_steps(listener, piece, sum)
-}
-
-fn listen(strides: bool, file: &[u8], size: u64) -> u64
+#[no_mangle]
+pub extern "C" fn bench_listen(file: &[u8], size: u64) -> u64
     ensures { λ r. ⌜ r ≡ listened size (now (file .entry)) ⌝ }
 {
     let most = piece_size(size, file.len());
@@ -66,25 +57,11 @@ fn listen(strides: bool, file: &[u8], size: u64) -> u64
     let mut at = 0;
     while at < file.len() {
         let stop = at + least(most, file.len() - at);
-        let heard = hear_piece(strides, state, &file[at..stop], sum);
+        let heard = hear(state, &file[at..stop], sum);
         state = heard.listener;
         sum = heard.sum;
         at = stop;
     }
     let ending = end(state);
     wrapping_add_u64(sum, end_number(ending))
-}
-
-#[no_mangle]
-pub extern "C" fn bench_listen(file: &[u8], size: u64) -> u64
-    ensures { λ r. ⌜ r ≡ listened size (now (file .entry)) ⌝ }
-{
-    listen(true, file, size)
-}
-
-#[no_mangle]
-pub extern "C" fn bench_steps(file: &[u8], size: u64) -> u64
-    ensures { λ r. ⌜ r ≡ listened size (now (file .entry)) ⌝ }
-{
-    listen(false, file, size)
 }

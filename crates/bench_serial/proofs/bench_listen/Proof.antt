@@ -4,14 +4,14 @@ use native.Mathlib.Omega.{arith}
 use lib.ListN.{length}
 use Rattle.bench_serial.proofs.Pieces.{Listens, listens-start, listens-some, listens-on, listens-end}
 use borrow.Author.Needs.{needs}
-use Rattle.bench_serial.proofs.listen.Statement.{statement}
-use Rattle.bench_serial.proofs.listen.Tie as tie
+use Rattle.bench_serial.proofs.bench_listen.Statement.{statement}
+use Rattle.bench_serial.proofs.bench_listen.Tie as tie
 
 abbrev Inv-loop : tie.InvT-loop
-Inv-loop strides file size most state₀ sum₀ at₀ state sum at = Listens size file most state sum at
+Inv-loop file size most state₀ sum₀ at₀ state sum at = Listens size file most state sum at
 
 abbrev μ-loop : tie.MeasureT-loop
-μ-loop strides file size most state₀ sum₀ at₀ state sum at = length file - at
+μ-loop file size most state₀ sum₀ at₀ state sum at = length file - at
 
 piece-size-requires : tie.Need-piece-size-requires Inv-loop μ-loop
 piece-size-requires c κs = search needs
@@ -31,17 +31,17 @@ least-requires c κs = search needs
 add-stop : tie.Need-add-stop Inv-loop μ-loop
 add-stop c = omega (arith, c .least .ensures)
 
-sub-hear-piece : tie.Need-sub-hear-piece Inv-loop μ-loop
-sub-hear-piece c = omega arith
+sub-hear : tie.Need-sub-hear Inv-loop μ-loop
+sub-hear c = omega arith
 
-part-hear-piece-start : tie.Need-part-hear-piece-start Inv-loop μ-loop
-part-hear-piece-start c = omega arith
+part-hear-start : tie.Need-part-hear-start Inv-loop μ-loop
+part-hear-start c = omega arith
 
-part-hear-piece-end : tie.Need-part-hear-piece-end Inv-loop μ-loop
-part-hear-piece-end c = omega (arith, c .least .ensures)
+part-hear-end : tie.Need-part-hear-end Inv-loop μ-loop
+part-hear-end c = omega (arith, c .least .ensures)
 
-hear-piece-requires : tie.Need-hear-piece-requires Inv-loop μ-loop
-hear-piece-requires c κs = search needs
+hear-requires : tie.Need-hear-requires Inv-loop μ-loop
+hear-requires c κs = search needs
 
 loop-less : tie.Need-loop-less Inv-loop μ-loop
 loop-less c =
@@ -53,7 +53,7 @@ loop-again : tie.Need-loop-again Inv-loop μ-loop
 loop-again c =
     let cut = c .before .before .before in
     listens-on _ _ _ _ _ _ (cut .before .before .loop .inv) _ _ (cut .before .before .before .before .piece-size .ensures) (cut .before .loop-test .taken) (cut .least .ensures)
-    (c .before .hear-piece .ensures)
+    (c .before .hear .ensures)
 
 end-requires : tie.Need-end-requires Inv-loop μ-loop
 end-requires c κs = search needs
@@ -70,8 +70,8 @@ returns c =
     listens-end _ _ _ _ _ _ (left .before .loop .inv) _ _ _ (left .loop-test .left) (c .before .before .end .ensures) (c .before .end-number .ensures)
     (c .wrapping-add-u64 .ensures)
 
-pub listen-spec : {M : Type 1} → statement M
-listen-spec =
+pub bench-listen-spec : {M : Type 1} → statement M
+bench-listen-spec =
     tie.close
     (tie.spec
     Inv-loop
@@ -82,10 +82,10 @@ listen-spec =
     sub-least
     least-requires
     add-stop
-    sub-hear-piece
-    part-hear-piece-start
-    part-hear-piece-end
-    hear-piece-requires
+    sub-hear
+    part-hear-start
+    part-hear-end
+    hear-requires
     loop-less
     loop-again
     end-requires

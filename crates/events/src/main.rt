@@ -8,44 +8,46 @@ use events_text::report::fresh_showing;
 use events_text::report::goes_on;
 use events_text::show;
 use events_text::show_end;
+use events_text::show_refusal;
 use libc::STDERR_FILENO;
 use libc::STDIN_FILENO;
 use libc::STDOUT_FILENO;
-use refusal_text::put_refusal_line;
 use status::STATUS_FILENO;
 use status::digit;
-use table_rules::Refusal;
+ghost use mathlib.Core.Path.{_≡_};
+ghost use mathlib.Core.Bool.{true};
+ghost use Prim.Native.Nat.{_≤_, _<_};
+ghost use lib.ListN.{length};
+ghost use Rattle.events_text.specs.Events.{goesOn};
 
 // What is known after a read. `more` says that there may be bytes to come.
-struct Watch {
+struct Watched {
     showing: Showing,
     how: Heard,
     more: bool,
 }
 
 // As much of the piece as one buffer has room to show. Where nobody takes the lines there is no use in going on.
-fn write_some(showing: Showing, piece: &[u8]) -> Shown {
+fn write_some(showing: Showing, piece: &[u8]) -> Shown
+    ensures { λ r. ⌜ r .used ≤ length (now (piece .entry)) ⌝ }
+    ensures { λ r. ⌜ (goesOn (r .how) ≡ true → 0 < length (now (piece .entry)) → 0 < r .used) ⌝ }
+{
     let mut out = [0u8; 4096];
     let shown = show(showing, piece, &mut out);
     let count = shown.count;
-    let how = shown.how;
-    if !io::write_all(STDOUT_FILENO, &out[..count]) {
-        return Shown {
-            showing: shown.showing,
-            used: shown.used,
-            count: count,
-            how: Heard::Fault,
-        };
+    if io::write_all(STDOUT_FILENO, &out[..count]) {
+        return shown;
     }
+    let next = shown.showing;
     Shown {
-        showing: shown.showing,
+        showing: next,
         used: shown.used,
         count: count,
-        how: how,
+        how: Heard::Fault,
     }
 }
 
-fn write_piece(showing: Showing, piece: &[u8]) -> Watch {
+fn write_piece(showing: Showing, piece: &[u8]) -> Watched {
     let mut current = showing;
     let mut used = 0;
     while used < piece.len() {
@@ -54,33 +56,34 @@ fn write_piece(showing: Showing, piece: &[u8]) -> Watch {
         used += shown.used;
         let how = shown.how;
         if !goes_on(how) {
-            return Watch {
+            return Watched {
                 showing: current,
                 how: how,
                 more: false,
             };
         }
     }
-    Watch {
+    Watched {
         showing: current,
         how: Heard::Sound,
         more: true,
     }
 }
 
-fn write_end(showing: Showing) -> Watch {
+fn write_end(showing: Showing) -> Watched {
     let mut out = [0u8; 128];
     let shown = show_end(showing, &mut out);
     let count = shown.count;
     io::write_all(STDOUT_FILENO, &out[..count]);
-    Watch {
+    let how = shown.how;
+    Watched {
         showing: showing,
-        how: shown.how,
+        how: how,
         more: false,
     }
 }
 
-fn watch_once(showing: Showing) -> Watch {
+fn watch_once(showing: Showing) -> Watched {
     let mut bytes = [0u8; 4096];
     let got = libc::read(STDIN_FILENO, &mut bytes);
     let n = io::count(got, &bytes);
@@ -97,24 +100,25 @@ fn watch() -> Heard {
     while turns > 0 {
         turns -= 1;
         let now = watch_once(current);
+        let how = now.how;
         if !now.more {
-            return now.how;
+            return how;
         }
         current = now.showing;
     }
     Heard::Refused
 }
 
-fn say_refused() {
-    let mut out = [0u8; 64];
-    let count = put_refusal_line(Refusal::Far, &mut out, 0);
+fn write_refusal() {
+    let mut out = [0u8; 128];
+    let count = show_refusal(&mut out);
     io::write_all(STDERR_FILENO, &out[..count]);
 }
 
 fn main() {
     let how = watch();
     if let Heard::Refused = how {
-        say_refused();
+        write_refusal();
     }
     io::write_all(STATUS_FILENO, &digit(ended_by(how)));
 }

@@ -14,6 +14,8 @@
 uint32_t bench_read(const uint8_t *ring, size_t ring_bytes, uint8_t *record, size_t record_bytes, uint8_t *out, size_t out_bytes);
 uint32_t bench_swap(uint8_t *old, size_t old_bytes, uint8_t *new, size_t new_bytes, uint8_t *record, size_t record_bytes);
 uint32_t bench_record(const uint8_t *ring, size_t ring_bytes, uint64_t placed, uint8_t *out, size_t out_bytes);
+uint64_t bench_listen(const uint8_t *file, size_t file_bytes, uint64_t size);
+uint64_t bench_steps(const uint8_t *file, size_t file_bytes, uint64_t size);
 
 enum { ARCHIVE, PLAIN, PREPARED };
 
@@ -273,6 +275,21 @@ static void measure_record(const char *group, const char *piece, unsigned long e
     printf("%s|capacity %zu, %lu events in %zu bytes: %zu put%s|%zu|%lu\n", group, ring_bytes - DATA_OFFSET, events, bytes_held(), bytes, piece, bytes, events);
 }
 
+/* the recording of the ring prepared, in the new ring's buffer, listened to in pieces; `archive` is the way that it goes */
+static void measure_listen(const char *group, uint64_t (*archive)(const uint8_t *, size_t, uint64_t), size_t payload_bytes, unsigned long events, uint64_t size)
+{
+    size_t file_bytes = bytes_held() + ENDS_BYTES;
+    uint64_t sum[2];
+
+    prepare_record(ring[PREPARED], ring_bytes, 0, new_ring[PLAIN], file_bytes);
+    sum[ARCHIVE] = archive(new_ring[PLAIN], file_bytes, size);
+    call_ended();
+    sum[PLAIN] = plain_listen(new_ring[PLAIN], file_bytes, size);
+    call_ended();
+    same(group, &sum[ARCHIVE], &sum[PLAIN], sizeof sum[PLAIN]);
+    printf("%s|payload %zu, %lu events in pieces of %lu|%zu|%lu\n", group, payload_bytes, events, (unsigned long)size, file_bytes, events);
+}
+
 static const size_t payloads[] = {0, 32, 96, 1000};
 
 #define EACH(i, list) (size_t i = 0; i < sizeof list / sizeof list[0]; i++)
@@ -384,6 +401,20 @@ static void recordings(size_t small, size_t large)
     record_over_the_end(large);
 }
 
+static void listenings(size_t capacity)
+{
+    static const uint64_t sizes[] = {1, 16, 64, 4096};
+
+    for EACH (i, payloads) {
+        unsigned long events = fill(capacity, payloads[i]);
+
+        for EACH (k, sizes)
+            measure_listen("listen", bench_listen, payloads[i], events, sizes[k]);
+    }
+    for EACH (i, payloads)
+        measure_listen("listen, by steps alone", bench_steps, payloads[i], fill(capacity, payloads[i]), 4096);
+}
+
 static void growth(void)
 {
     for (size_t capacity = 256; capacity <= 1048576; capacity *= 4) {
@@ -404,10 +435,10 @@ static void print_marks(void)
     printf("%016lx", (unsigned long)call_ended);
     printf(" %016lx %016lx %016lx %016lx %016lx", (unsigned long)lamipeonga_create, (unsigned long)lamipeonga_emit, (unsigned long)lamipeonga_inspect,
            (unsigned long)bench_read, (unsigned long)bench_swap);
-    printf(" %016lx", (unsigned long)bench_record);
+    printf(" %016lx %016lx %016lx", (unsigned long)bench_record, (unsigned long)bench_listen, (unsigned long)bench_steps);
     printf(" %016lx %016lx %016lx %016lx %016lx", (unsigned long)plain_create, (unsigned long)plain_emit, (unsigned long)plain_inspect,
            (unsigned long)plain_read, (unsigned long)plain_swap);
-    printf(" %016lx\n", (unsigned long)plain_record);
+    printf(" %016lx %016lx\n", (unsigned long)plain_record, (unsigned long)plain_listen);
 }
 
 int main(void)
@@ -424,6 +455,7 @@ int main(void)
     fill(4096, 32);
     measure_swap("warm", 4096, 4096, 64);
     measure_record("warm", ", the whole", 64, 0, sizeof new_ring[0]);
+    measure_listen("warm", bench_listen, 32, 64, 1);
 
     emissions(4096);
     readings(4096);
@@ -431,6 +463,7 @@ int main(void)
     creations();
     swaps(65536);
     recordings(4096, 65536);
+    listenings(16384);
     growth();
     return differences != 0;
 }

@@ -1,4 +1,4 @@
-/* The same six operations as the archives', in plain C. Compiled twice: measured under these names, and under prepare_* to fill the rings. */
+/* The same seven operations as the archives', in plain C. Compiled twice: measured under these names, and under prepare_* to fill the rings. */
 #ifndef PLAIN_H
 #define PLAIN_H
 
@@ -21,5 +21,8 @@ uint32_t plain_inspect(const uint8_t *ring, size_t ring_bytes);
 uint32_t plain_read(const uint8_t *ring, size_t ring_bytes, uint8_t *record, size_t record_bytes, uint8_t *out, size_t out_bytes);
 uint32_t plain_swap(uint8_t *old, size_t old_bytes, uint8_t *new, size_t new_bytes, uint8_t *record, size_t record_bytes);
 uint32_t plain_record(const uint8_t *ring, size_t ring_bytes, uint64_t placed, uint8_t *out, size_t out_bytes);
+
+/* in listen.c, which fills nothing */
+uint64_t plain_listen(const uint8_t *file, size_t file_bytes, uint64_t size);
 
 #endif

@@ -28,6 +28,8 @@ $1 == "beside record" { take(FNR, inspection); next }
         make()
     else if (kind == "record")
         piece()
+    else if (kind == "listen")
+        listen()
     else
         grow()
 }
@@ -87,6 +89,8 @@ function head(kind,    first) {
         print_head(first titles("per kilobyte in such pieces", "per kilobyte") " one inspection: " names " | the call beyond it: " names " |")
     else if (kind == "inspect")
         print_head(first titles("per event", "per event"))
+    else if (kind == "listen")
+        print_head(first titles("per event", "per event") titles("per kilobyte", "per kilobyte"))
     else
         print_head("| Capacity | emit, room: " names " | emit, full: " names " | read: " names " | inspect: " names " | inspect, per event: " names " |")
 }
@@ -134,6 +138,11 @@ function piece() {
     }
     if ($3 == 32)
         keep(shorter)
+}
+
+# a whole file, its opening and its closing with it
+function listen() {
+    print row " " each("%.1f", now, nothing, $4, " | ") " | " each("%.1f", now, nothing, $3 / 1024, " | ") " |"
 }
 
 # four cases to a capacity, one line

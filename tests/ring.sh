@@ -237,10 +237,16 @@ try 'an end with two' 2 '' "ring: sums didn't say how it ended" "acts='printf 01
 try 'an end with another' 2 '' "ring: sums didn't say how it ended" "acts='printf 2 >&3' ./ring sums"
 try 'a crash' 2 out 'ring: sums ended with status 5' "acts='echo out; printf 0 >&3; exit 5' ./ring sums"
 
+# far takes no input either, and its status is always the good one
+tried=$((tried + 1))
+said=$(tests/run-program far 3>&1 >"$work/output") || fail "far: ended with another status"
+[ "$said" = 0 ] || fail "far: said '$said'"
+cmp crates/far/stdout "$work/output" >&2 || fail "far: another output"
+
 # the programs of the tree itself, each with a word on what it does
 tried=$((tried + 1))
 named=$(./ring 2>&1 | sed -n 's/^  \([a-z_]*\( \[FILE\]\)\?\)  *[A-Z].*/\1/p')
-[ "$named" = $'events [FILE]\nlisting [FILE]\nrecord [FILE]\nreplay [FILE]\nsums' ] || fail "the programs are named as: $named"
+[ "$named" = $'events [FILE]\nfar\nlisting [FILE]\nrecord [FILE]\nreplay [FILE]\nsums' ] || fail "the programs are named as: $named"
 
 if [ "$failed" -ne 0 ]; then
     exit 1

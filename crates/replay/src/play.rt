@@ -1,39 +1,8 @@
 // The lines of a script in order.
-use replay_one::on_one;
-use replay_one::on_size;
-use replay_setting::records;
+use replay_line::begun;
+use replay_line::step;
 use replay_state::say;
-use replay_state::state::State;
-use replay_state::state::fresh;
-use replay_state::state::unknown;
-use replay_two::on_two;
-use replay_words::Command;
-use replay_words::command_of;
 use script::field::seek;
-
-fn step(
-    line: &[u8],
-    state: State,
-    first: &mut [u8],
-    second: &mut [u8],
-    third: &mut [u8],
-    fourth: &mut [u8],
-    out: &mut [u8],
-) -> State {
-    let found = command_of(line);
-    match found {
-        Command::Unknown => unknown(state),
-        Command::Writer => records::set_writer(line, state),
-        Command::Reader => records::set_reader(line, state),
-        Command::Outsum => {
-            say::sum(out);
-            state
-        }
-        Command::Size => on_size(line, state, first, second, third, fourth),
-        Command::Swap => on_two(line, state, first, second, third, fourth),
-        _ => on_one(found, line, state, first, second, third, fourth, out),
-    }
-}
 
 // Bytes behind the last newline are no line: they may have been cut off within a field.
 pub fn play(
@@ -44,7 +13,7 @@ pub fn play(
     fourth: &mut [u8],
     out: &mut [u8],
 ) {
-    let mut state = fresh();
+    let mut state = begun();
     let mut at = 0;
     while at < script.len() {
         let end = seek(script, at, 10);

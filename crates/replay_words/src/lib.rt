@@ -26,6 +26,13 @@ pub enum Looking {
     Record,
 }
 
+// A line on the listener.
+pub enum Serial {
+    Fresh,
+    Feed,
+    End,
+}
+
 pub enum Command {
     Size,
     Outsum,
@@ -34,6 +41,7 @@ pub enum Command {
     Swap,
     Changing(Changing),
     Looking(Looking),
+    Serial(Serial),
     Unknown,
 }
 
@@ -88,6 +96,19 @@ fn looking_word(word: &[u8], fields: usize) -> Command {
     Command::Unknown
 }
 
+fn serial_word(word: &[u8], fields: usize) -> Command {
+    if begins(word, fields, b"serial", 1) {
+        return Command::Serial(Serial::Fresh);
+    }
+    if begins(word, fields, b"feed", 2) {
+        return Command::Serial(Serial::Feed);
+    }
+    if begins(word, fields, b"end", 1) {
+        return Command::Serial(Serial::End);
+    }
+    Command::Unknown
+}
+
 // Lines on no ring, on a whole buffer, or on two.
 fn other_word(word: &[u8], fields: usize) -> Command {
     if begins(word, fields, b"size", 3) {
@@ -120,7 +141,11 @@ pub fn command_of(line: &[u8]) -> Command {
     let fields = count_fields(line);
     let word = field(line, 0);
     match one_word(word, fields) {
-        Command::Unknown => other_word(word, fields),
+        Command::Unknown => {}
+        found => return found,
+    }
+    match other_word(word, fields) {
+        Command::Unknown => serial_word(word, fields),
         found => found,
     }
 }

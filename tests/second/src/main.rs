@@ -2,6 +2,7 @@
 
 mod count;
 mod count_recordings;
+mod count_serial;
 mod count_stretches;
 mod count_wakes;
 mod generate;
@@ -43,7 +44,8 @@ fn count(folder: &Path) -> Result<(), String> {
     count::print(folder)?;
     count_wakes::print(folder)?;
     count_recordings::print(folder)?;
-    count_stretches::print(folder)
+    count_stretches::print(folder)?;
+    count_serial::print(folder)
 }
 
 /// One byte above the longest script tells that it is too long; the rest need not be held.

@@ -8,6 +8,7 @@ mod mixed;
 mod pen;
 mod random;
 mod recordings;
+mod serial;
 mod sketch;
 mod stretches;
 
@@ -18,13 +19,14 @@ type Kind = (&'static str, u64, fn(&mut Pen));
 
 /// Name and script of each of the stored set.
 pub fn scripts() -> Vec<(&'static str, Vec<u8>)> {
-    let kinds: [Kind; 6] = [
+    let kinds: [Kind; 7] = [
         ("life", 101, life::write),
         ("damage", 202, damage::write),
         ("edges", 303, edges::write),
         ("mixed", 404, mixed::write),
         ("recordings", 505, recordings::write),
         ("stretches", 606, stretches::write),
+        ("serial", 707, serial::write),
     ];
     kinds.into_iter().map(|(name, seed, write)| (name, written(seed, write))).collect()
 }

@@ -73,13 +73,19 @@ impl Sketch {
 
     /// Well formed, with random timestamp, type, class and payload.
     pub fn event(&self, pen: &mut Pen, size: u64, sequence: u64) -> Vec<u8> {
-        let mut event = (size as u32).to_le_bytes().to_vec();
-        event.extend_from_slice(&32u16.to_le_bytes());
-        event.extend_from_slice(&self.cpu_id.to_le_bytes());
-        event.extend_from_slice(&sequence.to_le_bytes());
-        event.extend_from_slice(&pen.random.bytes(13));
-        event.extend_from_slice(&[0, 0, 0]);
+        let mut event = header(pen, self.cpu_id, size, sequence);
         event.extend_from_slice(&pen.random.bytes(size - 32));
         event
     }
+}
+
+/// The first 32 bytes of an event.
+pub fn header(pen: &mut Pen, cpu_id: u16, size: u64, sequence: u64) -> Vec<u8> {
+    let mut header = (size as u32).to_le_bytes().to_vec();
+    header.extend_from_slice(&32u16.to_le_bytes());
+    header.extend_from_slice(&cpu_id.to_le_bytes());
+    header.extend_from_slice(&sequence.to_le_bytes());
+    header.extend_from_slice(&pen.random.bytes(13));
+    header.extend_from_slice(&[0, 0, 0]);
+    header
 }

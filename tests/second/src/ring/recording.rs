@@ -6,10 +6,10 @@ use super::page::open;
 use super::reader::{attach, read, ReadAnswer, Reader};
 use super::Refusal;
 
-const MARK: [u8; 3] = *b"SPL";
-const VERSION: u64 = 1;
-const OPENING: usize = 8;
-const CLOSING: usize = 24;
+pub const MARK: [u8; 3] = *b"SPL";
+pub const VERSION: u64 = 1;
+pub const OPENING: usize = 8;
+pub const CLOSING: usize = 24;
 
 /// Puts at the output's front what fits of the recording from `placed` on, and says how many bytes that is.
 pub fn record(ring: &[u8], placed: u64, output: &mut [u8]) -> Result<usize, Refusal> {

@@ -20,12 +20,18 @@ pub enum Command {
     Follow { buffer: usize, reader: usize },
     Swap { from: usize, to: usize, writer: usize },
     Record { buffer: usize, placed: u64, lent: usize },
+    Serial,
+    Feed { piece: Vec<u8> },
+    End,
 }
 
 pub fn parse(line: &[u8]) -> Option<Command> {
     let fields: Vec<&[u8]> = line.split(|byte| *byte == b' ').collect();
     let (word, rest) = fields.split_first()?;
-    buffer_command(word, rest).or_else(|| record_command(word, rest)).or_else(|| ring_command(word, rest))
+    buffer_command(word, rest)
+        .or_else(|| record_command(word, rest))
+        .or_else(|| ring_command(word, rest))
+        .or_else(|| serial_command(word, rest))
 }
 
 fn buffer_command(word: &[u8], rest: &[&[u8]]) -> Option<Command> {
@@ -69,6 +75,15 @@ fn ring_command(word: &[u8], rest: &[&[u8]]) -> Option<Command> {
         (b"follow", [b, r]) => Command::Follow { buffer: index(b)?, reader: index(r)? },
         (b"swap", [b, c, w]) if b != c => Command::Swap { from: index(b)?, to: index(c)?, writer: index(w)? },
         (b"record", [b, placed, n]) => Command::Record { buffer: index(b)?, placed: number(placed)?, lent: length(n)? },
+        _ => return None,
+    })
+}
+
+fn serial_command(word: &[u8], rest: &[&[u8]]) -> Option<Command> {
+    Some(match (word, rest) {
+        (b"serial", []) => Command::Serial,
+        (b"feed", [hex]) => Command::Feed { piece: bytes(hex)? },
+        (b"end", []) => Command::End,
         _ => return None,
     })
 }

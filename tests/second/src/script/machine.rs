@@ -4,7 +4,7 @@ use super::adler::adler;
 use super::command::{parse, Command};
 use super::fields::hex;
 use super::LONGEST_BUFFER;
-use crate::ring::{self, Emitted, NewEvent, ReadAnswer, Reader, Refusal, Swapped, Writer};
+use crate::ring::{self, Emitted, NewEvent, ReadAnswer, Reader, RecordingReader, Refusal, Report, Swapped, Writer};
 
 pub const UNKNOWN: &str = "unknown";
 
@@ -13,6 +13,7 @@ pub struct Machine {
     pub writers: [Writer; 4],
     pub readers: [Reader; 4],
     pub output: Vec<u8>,
+    pub recording_reader: RecordingReader,
 }
 
 impl Machine {
@@ -22,6 +23,7 @@ impl Machine {
             writers: Default::default(),
             readers: Default::default(),
             output: vec![0; LONGEST_BUFFER],
+            recording_reader: Default::default(),
         }
     }
 
@@ -58,6 +60,12 @@ impl Machine {
             Command::Follow { buffer, reader } => self.follow(buffer, reader),
             Command::Swap { from, to, writer } => self.swap(from, to, writer),
             Command::Record { buffer, placed, lent } => self.record(buffer, placed, lent),
+            Command::Serial => {
+                self.recording_reader = Default::default();
+                "ok".to_string()
+            }
+            Command::Feed { piece } => self.feed(&piece),
+            Command::End => self.end(),
         }
     }
 
@@ -161,6 +169,15 @@ impl Machine {
         said(outcome.map(|count| format!("placed {count} bytes {}", hex(&self.output[..count]))))
     }
 
+    fn feed(&mut self, piece: &[u8]) -> String {
+        said(self.recording_reader.feed(piece).map(|reports| "fed".to_string() + &told(&reports)))
+    }
+
+    fn end(&mut self) -> String {
+        let reader = std::mem::take(&mut self.recording_reader);
+        "ended".to_string() + &told(reader.end().as_slice())
+    }
+
     fn writer_record(&self, writer: usize) -> String {
         let Writer { last, dropped, overwritten } = self.writers[writer];
         format!(" writer {last} {dropped} {overwritten}")
@@ -179,4 +196,15 @@ fn said(answer: Result<impl ToString, Refusal>) -> String {
         Err(Refusal::Damaged(at)) => format!("refused 10 at {at}"),
         Err(refusal) => format!("refused {}", refusal.number()),
     }
+}
+
+/// What the reader of recordings reports, each with a space before it.
+fn told(reports: &[Report]) -> String {
+    let one = |report: &Report| match report {
+        Report::Header(bytes) => format!(" header {}", hex(bytes)),
+        Report::Payload { at, length } => format!(" payload {at} {length}"),
+        Report::Closing { handed, missed } => format!(" closing {handed} {missed}"),
+        Report::Fault { fault, place } => format!(" fault {} at {place}", fault.number()),
+    };
+    reports.iter().map(one).collect()
 }

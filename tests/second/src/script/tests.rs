@@ -78,3 +78,33 @@ fn refused_recordings_show_no_record_and_leave_the_output() {
     assert_eq!(answers[4..11], ["refused 13", "refused 13", "unknown", "unknown", "refused 1", "ok", "refused 10 at 0"]);
     assert_eq!(answers[3], answers[11]);
 }
+
+#[test]
+fn a_recording_is_fed_piece_by_piece() {
+    let header = "2300000020000201040000000000000005060000000000000708000009000000";
+    let script = format!(
+        "feed 53504c01000201\nfeed 00{header}aa\nfeed -\nfeed bb\nfeed cc0000000000000000010000\nfeed 00000000000300000000000000\nend\n"
+    );
+    let expected =
+        format!("fed\nfed header {header} payload 40 1\nfed\nfed payload 41 1\nfed payload 42 1\nfed closing 1 3\nended\n");
+    assert_eq!(answers(&script), expected);
+}
+
+/// The reader is fresh at a script's start, after `serial` and after `end`; then the end of the file is at 0.
+#[test]
+fn the_reader_is_begun_anew() {
+    let script = "end\nfeed 5350\nserial\nend\nfeed 535050\nend\nend\nfeed 735050010000000000\nfeed 00\nfeed -\nend\nend\n";
+    let expected = "ended fault 8 at 0\nfed\nok\nended fault 8 at 0\nfed\nended fault 8 at 3\nended fault 8 at 0\n\
+                    fed fault 1 at 0\nfed\nfed\nended\nended fault 8 at 0\n";
+    assert_eq!(answers(script), expected);
+}
+
+#[test]
+fn wrong_lines_leave_the_reader() {
+    let wrong = ["serial 0", "serial ", "feed", "feed ", "feed 0", "feed A0", "feed 00 00", "end 1", " end", "end "];
+    for line in wrong {
+        assert_eq!(answers(&format!("feed 53\n{line}\nend\n")), "fed\nunknown\nended fault 8 at 1\n", "{line}");
+    }
+    let (longest, longer) = ("00".repeat(40_960), "00".repeat(40_961));
+    assert_eq!(answers(&format!("feed {longer}\nfeed {longest}\nend\n")), "unknown\nfed fault 1 at 0\nended\n");
+}

@@ -17,8 +17,8 @@ Inv-loop script first₀ second₀ third₀ fourth₀ out₀ state₀ at₀ t11 
 abbrev μ-loop : tie.MeasureT-loop
 μ-loop script first₀ second₀ third₀ fourth₀ out₀ state₀ at₀ t11 first second third fourth out state at = length script - at
 
-fresh-requires : tie.Need-fresh-requires Inv-loop μ-loop
-fresh-requires c κs = search needs
+begun-requires : tie.Need-begun-requires Inv-loop μ-loop
+begun-requires c κs = search needs
 
 loop-holds : tie.Need-loop-holds Inv-loop μ-loop
 loop-holds c = search needs
@@ -95,7 +95,7 @@ play-spec =
     (tie.spec
     Inv-loop
     μ-loop
-    fresh-requires
+    begun-requires
     loop-holds
     seek-requires
     slice-aggregate-words

@@ -1,0 +1,120 @@
+-- Pieces one after the other: each is fed as its laws say (`feed-good`), so the rest of the file is what is left to be read, by induction on the pieces.
+use Prim.Native.Nat.{ℕ, _+_, _^_, _≤_, _<_}
+use native.Mathlib.Omega.{arith}
+use mathlib.Core.Path.{_≡_, refl, sym, ap, _∙_}
+use mathlib.Core.Logic.{⊎-elim, _≢_}
+use mathlib.Core.Bool.{true, false}
+use mathlib.Core.List.{List, [], _∷_, _++_, append-nil}
+use lib.ListN.{length, length-append}
+use Rattle.table_rules.proofs.Tests.{le-or-lt, either}
+use Rattle.event_rules.specs.Run.{joined}
+use Rattle.reading_rules.specs.Account.{Told, accountOf}
+use Rattle.serial_rules.specs.Step.{fresh, arrived, possible, stepped, ended}
+use Rattle.serial_rules.specs.Feed.{Fed, feed, feedAll}
+use Rattle.serial_rules.specs.declared.Listener.{Listener}
+use Rattle.serial_rules.specs.declared.Step.{Step}
+use Rattle.serial_rules.specs.declared.Report.the-variants.{Refused as tellsRefused}
+use Rattle.serial_rules.proofs.Facts.{Sound}
+use Rattle.serial_rules.proofs.Touch.{onto, made-one}
+use Rattle.serial_rules.proofs.Settled.{whole-settled}
+use Rattle.serial_rules.proofs.Rest.{rest}
+use Rattle.serial_rules.proofs.Moves.{stepped-never, stepped-far, stepped-none, refused-only}
+use Rattle.serial_rules.proofs.Feeding.{Fine, nothing-fed, fed-then, feed-good, feed-empty, feed-stuck, end-is}
+use Rattle.cuts.specs.Cut.{Taken, HoweverCut, NoBytes, Refusals, RefusedLate}
+
+-- ---- refusal
+
+pub refusals : Refusals
+refusals l piece =
+    record {
+      given = stepped-far l piece;
+      only = refused-only l piece;
+      nothing =
+          λ e.
+          let far = refused-only l piece e in
+          feed-stuck l piece (stepped-far l piece (far .0) (far .1));
+    }
+
+near : (l : Listener) (piece : List ℕ) → Sound l → stepped l piece .report ≢ tellsRefused → arrived l + length piece ≤ 2 ^ 62
+near l piece sound taken =
+    ⊎-elim (λ (h : arrived l + length piece ≤ 2 ^ 62). h)
+    (λ (far : 2 ^ 62 < arrived l + length piece). absurd (taken (ap (λ (s : Step). s .report) (stepped-far l piece (sound .possible-is) far))))
+    (le-or-lt (arrived l + length piece) (2 ^ 62))
+
+pub no-bytes : NoBytes
+no-bytes l = (feed-empty l [] refl, ⊎-elim can (λ (e : possible l ≡ false). ap (λ (s : Step). s .listener) (stepped-never l [] e)) (either (possible l)))
+  where
+    can : possible l ≡ true → stepped l [] .listener ≡ l
+    can e =
+        ⊎-elim
+        (λ (h : arrived l + 0 ≤ 2 ^ 62). ap (λ (s : Step). s .listener) (stepped-none l [] e h refl))
+        (λ (far : 2 ^ 62 < arrived l + 0). ap (λ (s : Step). s .listener) (stepped-far l [] e far))
+        (le-or-lt (arrived l + 0) (2 ^ 62))
+
+-- ---- all pieces
+
+piece-fed : (l : Listener) (piece more : List ℕ) → Sound l → arrived l + length piece ≤ 2 ^ 62 → Fine l piece more (feed l piece)
+unfolding feed
+piece-fed l piece more sound close = feed-good (length piece) l piece more (omega arith) sound close
+
+record Done (l : Listener) (pieces : List (List ℕ)) (more : List ℕ) : Type 0 where
+  fine : Fine l (joined pieces) more (feedAll l pieces)
+  within : arrived l + length (joined pieces) ≤ 2 ^ 62
+
+all-good : (l : Listener) (pieces : List (List ℕ)) (more : List ℕ) → Sound l → arrived l ≤ 2 ^ 62 → Taken l pieces → Done l pieces more
+unfolding feedAll joined
+all-good l [] more sound here taken = record { fine = nothing-fed l more sound; within = omega arith }
+all-good l (piece ∷ pieces) more sound here taken =
+    let all : length (piece ++ joined pieces) ≡ length piece + length (joined pieces) = length-append piece (joined pieces) in
+    let one : Fine l piece (joined pieces ++ more) (feed l piece) = piece-fed l piece (joined pieces ++ more) sound (near l piece sound (taken .0)) in
+    let later : Done (feed l piece .listener) pieces more =
+    all-good (feed l piece .listener) pieces more (one .sound) (omega (arith, one .counts, near l piece sound (taken .0))) (taken .1) in
+    record {
+      fine = fed-then l piece (joined pieces) more (feed l piece) (feedAll (feed l piece .listener) pieces) one (later .fine);
+      within = omega (arith, later .within, one .counts);
+    }
+
+takes : (l : Listener) (pieces : List (List ℕ)) → Sound l → arrived l + length (joined pieces) ≤ 2 ^ 62 → Taken l pieces
+unfolding joined
+takes l [] sound here = tt
+takes l (piece ∷ pieces) sound here =
+    let all : length (piece ++ joined pieces) ≡ length piece + length (joined pieces) = length-append piece (joined pieces) in
+    let one : Fine l piece [] (feed l piece) = piece-fed l piece [] sound (omega arith) in (
+      λ e. let far : 2 ^ 62 < arrived l + length piece = refused-only l piece e .1 in omega arith,
+      takes (feed l piece .listener) pieces (one .sound) (omega (arith, one .counts)),
+    )
+
+-- ---- from the beginning
+
+pub fresh-sound : Sound fresh
+unfolding fresh possible
+fresh-sound = record { possible-is = refl; kept-is = refl }
+
+fresh-reads : (file : List ℕ) → rest fresh file ≡ accountOf file
+unfolding fresh accountOf
+fresh-reads file = refl
+
+fresh-arrived : arrived fresh ≡ 0
+unfolding fresh
+fresh-arrived = refl
+
+pub however-cut : HoweverCut
+however-cut pieces taken =
+    let file : List ℕ = joined pieces in
+    let fed : Fed = feedAll fresh pieces in
+    let done : Done fresh pieces [] = all-good fresh pieces [] fresh-sound (omega (arith, fresh-arrived)) taken in
+    let fine : Fine fresh file [] fed = done .fine in
+    let at-end : onto (fed .reports) (rest (fed .listener) []) ≡ record { reports = fed .reports; end = ended (fed .listener) } =
+    ap (onto (fed .reports)) (end-is (fed .listener) (fine .sound) (omega (arith, fine .counts, done .within)))
+    ∙ ap (λ (reports : List Told). record { reports = reports; end = ended (fed .listener) }) (append-nil (fed .reports)) in
+    sym (ap made-one at-end)
+    ∙ sym (fine .same)
+    ∙ ap (λ (bs : List ℕ). made-one (rest fresh bs)) (append-nil file)
+    ∙ ap made-one (fresh-reads file)
+    ∙ whole-settled file
+
+pub refused-late : RefusedLate
+refused-late pieces = (
+  λ taken. omega (arith, all-good fresh pieces [] fresh-sound (omega (arith, fresh-arrived)) taken .within, fresh-arrived),
+  λ within. takes fresh pieces fresh-sound (omega (arith, fresh-arrived)),
+)

@@ -1,0 +1,77 @@
+// A line of any kind, taken to what it plays on.
+use replay_one::on_one;
+use replay_one::on_size;
+use replay_serial::on_listener;
+use replay_setting::records;
+use replay_state::say;
+use replay_state::state::State;
+use replay_state::state::fresh;
+use replay_state::state::unknown;
+use replay_two::on_two;
+use replay_words::Command;
+use replay_words::command_of;
+use serial::listener;
+use serial_rules::Listener;
+
+// The listener stands apart from the records: its lines are given nothing else, and no other line is given it.
+pub struct Playing {
+    pub records: State,
+    pub listener: Listener,
+}
+
+pub fn begun() -> Playing {
+    let records = fresh();
+    let listener = listener::fresh();
+    Playing {
+        records: records,
+        listener: listener,
+    }
+}
+
+fn on_records(
+    found: Command,
+    line: &[u8],
+    state: State,
+    first: &mut [u8],
+    second: &mut [u8],
+    third: &mut [u8],
+    fourth: &mut [u8],
+    out: &mut [u8],
+) -> State {
+    match found {
+        Command::Unknown => unknown(state),
+        Command::Writer => records::set_writer(line, state),
+        Command::Reader => records::set_reader(line, state),
+        Command::Outsum => {
+            say::sum(out);
+            state
+        }
+        Command::Size => on_size(line, state, first, second, third, fourth),
+        Command::Swap => on_two(line, state, first, second, third, fourth),
+        _ => on_one(found, line, state, first, second, third, fourth, out),
+    }
+}
+
+pub fn step(
+    line: &[u8],
+    state: Playing,
+    first: &mut [u8],
+    second: &mut [u8],
+    third: &mut [u8],
+    fourth: &mut [u8],
+    out: &mut [u8],
+) -> Playing {
+    let records = state.records;
+    let listener = state.listener;
+    let found = command_of(line);
+    match found {
+        Command::Serial(word) => Playing {
+            records: records,
+            listener: on_listener(word, line, listener),
+        },
+        _ => Playing {
+            records: on_records(found, line, records, first, second, third, fourth, out),
+            listener: listener,
+        },
+    }
+}

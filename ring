@@ -17,6 +17,9 @@ is_program() { [[ $1 != */* ]] && [ -f "$root/crates/$1/src/main.rt" ]; }
 # a program that reads has the file `stdin`, which rt gives to it when it tries it
 takes_file() { [ -f "$root/crates/$1/stdin" ]; }
 
+# a program that answers to each part of its input as it arrives, however long that is
+streams() { [ "$1" = events ]; }
+
 usage() {
     local main program file about
     echo 'usage: ./ring NAME [FILE]: runs NAME with FILE as its standard input. NAME is one of:'
@@ -116,9 +119,9 @@ if ! is_built; then
     mv "$mark.begun" "$mark"
 fi
 
-# To a program an input whose reading fails is one that ends there, and it would answer to half a ring. head tells the two apart. No program looks at more
-# than 64 MiB.
-if takes_file "$name"; then
+# To a program an input whose reading fails is one that ends there, and it would answer to half a ring. head tells the two apart. No program but one that
+# streams looks at more than 64 MiB.
+if takes_file "$name" && ! streams "$name"; then
     input=$(mktemp) || stop "there is no room for ${1:-standard input}"
     if ! head -c 67108864 >"$input" 2>/dev/null; then
         rm -f "$input"
@@ -128,22 +131,47 @@ if takes_file "$name"; then
     rm "$input"
 fi
 
+# A program that streams is fed by cat, which tells a reading that fails from an end. cat ends by itself where the input does; where the program has ended
+# first, cat may wait for more, and is stopped. That isn't asked of it before it had time to say that a reading failed.
+feed() {
+    exec {fed_by}< <(env --default-signal=PIPE cat 2>/dev/null 3>&- 4>&-)
+    feeder=$!
+    exec <&"$fed_by" {fed_by}<&-
+}
+fed() {
+    local turn
+    exec </dev/null
+    for turn in 1 2 3 4 5 6 7 8 9 10; do
+        kill -0 "$feeder" 2>/dev/null || break
+        sleep 0.02
+    done
+    kill -PIPE "$feeder" 2>/dev/null
+    wait "$feeder"
+}
+
 # A program has no exit status of its own: it writes the digit to descriptor 3. Nor does it see whether its output could be written. cat does.
 exec 4>&1
 said=$(
     exec 3>&1
     ended=(0 0)
+    reading=0
+    streams "$name" && feed
     "$root/tests/run-program" "$name" 4>&- | cat 2>/dev/null >&4 3>&- || ended=("${PIPESTATUS[@]}")
-    echo "/${ended[*]}"
+    if streams "$name"; then
+        fed || reading=$?
+    fi
+    echo "/${ended[*]} $reading"
 )
 digit=${said%%/*}
-read -r program output <<<"${said##*/}"
+read -r program output reading <<<"${said##*/}"
 case $output in
 0) ;;
 # a reader that has had enough, such as head, is no fault
 141) exit 141 ;;
 *) stop "standard output can't be written" ;;
 esac
+# nor is a program that has seen enough
+[ "$reading" -eq 0 ] || [ "$reading" -eq 141 ] || stop "${1:-standard input} can't be read"
 [ "$program" -eq 0 ] || stop "$name ended with status $program"
 [[ $digit == [01] ]] || stop "$name didn't say how it ended"
 exit "$digit"

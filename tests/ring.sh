@@ -38,18 +38,20 @@ cp tests/run-program "$copy/tests"
 cp examples/*.ring "$copy/examples"
 cp examples/start.ring "$copy/the first start.ring"
 cp tests/record/start.spl "$copy"
-for name in listing record replay sums; do
+cp tests/events/header-size.spl "$copy/faulty.spl"
+for name in events listing record replay sums; do
     if ! cp "target/bin/$name" "$copy/target/bin"; then
         echo "ring: $name isn't built" >&2
         exit 1
     fi
     mkdir -p "$copy/crates/$name/src"
 done
+echo '// Shows a recording' >"$copy/crates/events/src/main.rt"
 echo '// Lists a ring. This is not shown.' >"$copy/crates/listing/src/main.rt"
 echo '// Records a ring' >"$copy/crates/record/src/main.rt"
 echo '// Plays a script (README.md).' >"$copy/crates/replay/src/main.rt"
 echo '// Works sums' >"$copy/crates/sums/src/main.rt"
-touch "$copy"/crates/{listing,record,replay}/stdin "$copy/crates/word/src/lib.rt"
+touch "$copy"/crates/{events,listing,record,replay}/stdin "$copy/crates/word/src/lib.rt"
 cat >"$copy/crates.txt" <<'END'
 # listing stands on three of these
 table_rules:
@@ -60,14 +62,21 @@ text: word
 table: table_rules
 listing: text io libc
 END
-touch "$copy"/target/ring/{listing,record,replay,sums}
+touch "$copy"/target/ring/{events,listing,record,replay,sums}
 
 # the largest ring, whose recording no pipe holds
 python3 tests/make-rings.py --large "$work" >/dev/null || fail "no large rings"
 mv "$work/1048576.ring" "$copy/large.ring"
+# a recording whose lines no pipe holds
+mkdir "$work/recordings"
+python3 tests/make-recordings.py --more "$work/recordings" >/dev/null || fail "no further recordings"
+mv "$work/recordings/dense.spl" "$copy/many.spl"
 
 start=$(cat tests/listing/start.txt)
+events=$(cat tests/events/start.txt)
+faulty=$(cat tests/events/header-size.txt)
 usage="usage: ./ring NAME [FILE]: runs NAME with FILE as its standard input. NAME is one of:
+  events [FILE]    Shows a recording
   listing [FILE]   Lists a ring
   record [FILE]    Records a ring
   replay [FILE]    Plays a script (README.md)
@@ -89,6 +98,18 @@ try 'a refused recording' 1 '' 'refused 10 at 416' './ring record <examples/dama
 try 'no byte to record' 1 '' 'refused 1' './ring record </dev/null'
 try 'a ring too long to record' 1 '' 'too long' 'head -c 1056769 /dev/zero | ./ring record'
 try 'much too long' 1 '' 'too long' 'head -c 4000000 /dev/zero | ./ring record'
+try 'events' 0 "$events" '' './ring events start.spl'
+try 'events of standard input' 0 "$events" '' './ring events <start.spl'
+try 'events of a recording as it is made' 0 "$events" '' './ring record <examples/start.ring | ./ring events'
+try 'events with a fault' 1 "$faulty" '' './ring events faulty.spl'
+try 'events cut off' 1 'recording cpu 3'$'\n''fault 8 at 100 ended early' '' 'head -c 100 start.spl | ./ring events'
+try 'events of no byte' 1 'fault 8 at 0 ended early' '' './ring events </dev/null'
+try 'bytes without end after a fault' 1 'fault 1 at 0 mark' '' './ring events </dev/zero'
+try 'a line that stays open after a fault' 1 "$faulty" '' 'exec 5< <(cat faulty.spl && exec sleep 60) && writer=$! && ./ring events <&5; status=$? && kill "$writer" && exit "$status"'
+# where nobody ends at a broken pipe, the reading still isn't at fault
+try 'bytes without end, and the signal ignored' 1 'fault 1 at 0 mark' '' "trap '' PIPE && ./ring events </dev/zero"
+try 'a reader of events that stops' 141 'recording cpu 65535' '' \
+    'env --default-signal=PIPE ./ring events <many.spl | head -n 1; exit "${PIPESTATUS[0]}"'
 try 'a script' 0 unknown '' 'echo nothing >script && ./ring replay script'
 try 'a script too long' 1 'too long' '' 'head -c 1048577 /dev/zero | ./ring replay'
 try 'sums' 0 "$(cat crates/sums/stdout)" '' './ring sums'
@@ -106,6 +127,7 @@ try 'a path' 2 '' "ring: there is no program 'word/../listing'"$'\n'"$usage" './
 try 'two files' 2 '' 'ring: listing takes one FILE at most' './ring listing examples/start.ring examples/empty.ring'
 try 'a file for sums' 2 '' 'ring: sums takes no FILE' './ring sums examples/start.ring'
 try 'no such file' 2 '' 'ring: no such.ring: No such file or directory' './ring listing "no such.ring"'
+try 'a folder of events' 2 '' 'ring: examples: Is a directory' './ring events examples'
 try 'a folder' 2 '' 'ring: examples: Is a directory' './ring listing examples'
 # root reads every file, so this one is for others
 if [ "$(id -u)" -ne 0 ]; then
@@ -121,6 +143,8 @@ try 'a closed output for a recording' 2 '' 'ring: standard output is closed' './
 try 'a full output for a recording' 2 '' "ring: standard output can't be written" './ring record <examples/start.ring >/dev/full'
 try 'a full output for a large recording' 2 '' "ring: standard output can't be written" './ring record <large.ring >/dev/full'
 try 'a full output for help' 2 '' "ring: standard output can't be written" './ring --help >/dev/full'
+try 'a closed output of events' 2 '' 'ring: standard output is closed' './ring events start.spl >&-'
+try 'a full output of events' 2 '' "ring: standard output can't be written" './ring events start.spl >/dev/full'
 try 'closed errors' 0 '' '' './ring record <examples/start.ring 2>&- | cmp - start.spl'
 try 'closed errors, and a refusal' 1 '' '' './ring record <examples/damaged.ring 2>&-'
 try 'closed errors, and no such file' 2 '' '' './ring record "no such.ring" 2>&-'
@@ -130,6 +154,45 @@ try 'full errors, and no word' 2 '' '' './ring 2>/dev/full'
 # what can be opened, and fails when it is read: a process' own memory, at 0
 try 'a file that fails' 2 '' "ring: /proc/self/mem can't be read" './ring record /proc/self/mem'
 try 'an input that fails' 2 '' "ring: standard input can't be read" 'exec 5</proc/self/mem && ./ring replay <&5; exit "$?"'
+# what was shown before it fails is out by then
+try 'events of a file that fails' 2 'fault 8 at 0 ended early' "ring: /proc/self/mem can't be read" './ring events /proc/self/mem'
+
+# A line that is slow: what has arrived whole is shown before the next byte comes, and nothing that hasn't.
+send() { head -c "$(($1 + $2))" tests/record/start.spl | tail -c "$2" >&8; }
+shows() {
+    local line
+    tried=$((tried + 1))
+    IFS= read -r -t 20 -u 9 line && [ "$line" = "$1" ] || fail "a slow line: '$line', not '$1'"
+}
+shows_nothing() {
+    local line
+    tried=$((tried + 1))
+    IFS= read -r -t 0.3 -u 9 line && fail "a slow line: '$line' too early"
+}
+mkfifo "$work/line" "$work/lines"
+(cd "$copy" && exec ./ring events "$work/line" >"$work/lines") &
+slow=$!
+# each of the two waits for its other end, and these are opened in this order
+exec 9<"$work/lines" 8>"$work/line"
+send 0 7
+shows_nothing
+send 7 1
+shows 'recording cpu 3'
+send 8 40
+send 48 87
+shows_nothing
+send 135 1
+shows '6 128 2 1000'
+send 136 128
+shows '7 128 3 2000'
+send 264 23
+shows_nothing
+send 287 1
+shows 'handed 2 missed 5'
+exec 8>&-
+wait "$slow" || fail "a slow line: status $?"
+exec 9<&-
+
 mkdir "$work/tools"
 ln -s "$(command -v bash)" "$(command -v dirname)" "$(command -v readlink)" "$work/tools"
 try 'no kit' 2 '' 'ring: the Rattle kit is missing: there is no rt on the PATH' 'PATH=$work/tools ./ring listing examples/start.ring'
@@ -183,7 +246,7 @@ cmp crates/far/stdout "$work/output" >&2 || fail "far: another output"
 # the programs of the tree itself, each with a word on what it does
 tried=$((tried + 1))
 named=$(./ring 2>&1 | sed -n 's/^  \([a-z_]*\( \[FILE\]\)\?\)  *[A-Z].*/\1/p')
-[ "$named" = $'far\nlisting [FILE]\nrecord [FILE]\nreplay [FILE]\nsums' ] || fail "the programs are named as: $named"
+[ "$named" = $'events [FILE]\nfar\nlisting [FILE]\nrecord [FILE]\nreplay [FILE]\nsums' ] || fail "the programs are named as: $named"
 
 if [ "$failed" -ne 0 ]; then
     exit 1

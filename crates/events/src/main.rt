@@ -18,7 +18,7 @@ ghost use mathlib.Core.Path.{_≡_};
 ghost use mathlib.Core.Bool.{true};
 ghost use Prim.Native.Nat.{_≤_, _<_};
 ghost use lib.ListN.{length};
-ghost use Rattle.events_text.specs.Events.{goesOn};
+ghost use Rattle.events_text.specs.Events.{keepsOn};
 
 // What is known after a read. `more` says that there may be bytes to come.
 struct Watched {
@@ -30,7 +30,7 @@ struct Watched {
 // As much of the piece as one buffer has room to show. Where nobody takes the lines there is no use in going on.
 fn write_some(showing: Showing, piece: &[u8]) -> Shown
     ensures { λ r. ⌜ r .used ≤ length (now (piece .entry)) ⌝ }
-    ensures { λ r. ⌜ (goesOn (r .how) ≡ true → 0 < length (now (piece .entry)) → 0 < r .used) ⌝ }
+    ensures { λ r. ⌜ (keepsOn (r .how) ≡ true → 0 < length (now (piece .entry)) → 0 < r .used) ⌝ }
 {
     let mut out = [0u8; 4096];
     let shown = show(showing, piece, &mut out);

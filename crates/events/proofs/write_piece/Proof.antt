@@ -7,7 +7,7 @@ use mathlib.Core.List.{List}
 use denote.Ref.{now}
 use lib.ListN.{length, take, drop, length-drop}
 use lib.Seq.{length-take-le}
-use Rattle.events_text.specs.Events.{goesOn}
+use Rattle.events_text.specs.Events.{keepsOn}
 use borrow.Author.Tests.{not-false}
 use borrow.Author.Needs.{needs}
 use Rattle.events.proofs.write_piece.Statement.{statement}
@@ -35,7 +35,7 @@ part-length c = length-take-le (length (piece-at c) - used-at c) (drop (used-at 
 within : (c : At) → used-at c + c .write-some .result .used ≤ length (piece-at c)
 within c = omega (arith, c .write-some .ensures .0, part-length c)
 
-gets-on : (c : At) → goesOn (c .write-some .result .how) ≡ true → 0 < c .write-some .result .used
+gets-on : (c : At) → keepsOn (c .write-some .result .how) ≡ true → 0 < c .write-some .result .used
 gets-on c on = c .write-some .ensures .1 on (omega (arith, part-length c))
 
 loop-holds : tie.Need-loop-holds Inv-loop μ-loop

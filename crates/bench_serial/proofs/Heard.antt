@@ -12,7 +12,7 @@ use lib.Dec.{eqb, ltb}
 use borrow.Author.Tests.{le-leb}
 use Rattle.reading_rules.specs.Account.{Told}
 use Rattle.reading_rules.proofs.Cases.{by-test}
-use Rattle.serial_rules.specs.Step.{arrived, possibleAt, possible, refused, taking, strode, stepped}
+use Rattle.serial_rules.specs.Step.{arrived, possibleAt, possible, refusedStep, taking, strode, stepped}
 use Rattle.serial_rules.specs.Feed.{told, Fed, feed}
 use Rattle.serial_rules.specs.declared.Stage.{Stage}
 use Rattle.serial_rules.specs.declared.Stage.the-variants as stage
@@ -24,7 +24,7 @@ use Rattle.serial_rules.specs.declared.Stride.{Stride}
 use Rattle.serial_rules.proofs.Moves.{Moves, moves}
 use Rattle.serial_rules.proofs.Strode.{stride-is-step}
 use Rattle.serial_rules.proofs.Feeding.{before, feed-empty, feed-stuck, feed-on}
-use Rattle.bench_serial.specs.Listened.{sumOf, heard, resting, Alike, strideNumber}
+use Rattle.bench_serial.specs.Listened.{sumOf, heard, resting, SameRest, strideNumber}
 use Rattle.bench_serial.specs.declared.Hearing.{Hearing}
 use Rattle.bench_serial.proofs.Numbers.{sum-append, wraps-on, drop-all, step-whole, Striding, striding}
 
@@ -60,7 +60,7 @@ module _ (l : Listener) (piece : List ℕ) (sum : ℕ) (long : length (l .kept) 
       by [] e = ap (λ (bs : List ℕ). heard l bs sum) e ∙ heard-end l sum fits
       by (b ∷ bs) e =
           ⊎-elim
-          (λ (far : stepped l piece ≡ refused l). ap (hearing sum) (feed-stuck l piece far) ∙ nothing-more l sum fits)
+          (λ (far : stepped l piece ≡ refusedStep l). ap (hearing sum) (feed-stuck l piece far) ∙ nothing-more l sum fits)
           (λ (moved : Moves piece (stepped l piece)). absurd (omega (arith, moved .uses)))
           (moves l piece long (omega (arith, ap length e)))
 
@@ -70,7 +70,7 @@ module _ (l : Listener) (piece : List ℕ) (sum : ℕ) (long : length (l .kept) 
   unfolding heard
   heard-on some used =
       ⊎-elim
-      (λ (e : stepped l piece ≡ refused l). absurd (omega (arith, ap (λ (s : Step). s .used) e)))
+      (λ (e : stepped l piece ≡ refusedStep l). absurd (omega (arith, ap (λ (s : Step). s .used) e)))
       (λ (moved : Moves piece (stepped l piece)).
       ap (hearing sum) (feed-on l piece long some moved)
       ∙ hearing-before sum (told piece (stepped l piece)) (feed (stepped l piece .listener) (drop (stepped l piece .used) piece)))
@@ -98,7 +98,7 @@ step-within : (l : Listener) (piece : List ℕ) → length (l .kept) ≡ 32 → 
 step-within l [] long = omega (arith, step-none l)
 step-within l (b ∷ bs) long =
     ⊎-elim
-    (λ (far : stepped l (b ∷ bs) ≡ refused l). omega (arith, ap (λ (s : Step). s .used) far))
+    (λ (far : stepped l (b ∷ bs) ≡ refusedStep l). omega (arith, ap (λ (s : Step). s .used) far))
     (λ (moved : Moves (b ∷ bs) (stepped l (b ∷ bs))). moved .within)
     (moves l (b ∷ bs) long (omega arith))
 
@@ -109,7 +109,7 @@ kept-length l [] long =
     by-test P (possible l) (λ e. by-test P (ltb (2 ^ 62) (arrived l + 0)) (λ far. long) (λ near. long)) (λ e. long)
 kept-length l (b ∷ bs) long =
     ⊎-elim
-    (λ (far : stepped l (b ∷ bs) ≡ refused l). ap (λ (s : Step). length (s .listener .kept)) far ∙ long)
+    (λ (far : stepped l (b ∷ bs) ≡ refusedStep l). ap (λ (s : Step). length (s .listener .kept)) far ∙ long)
     (λ (moved : Moves (b ∷ bs) (stepped l (b ∷ bs))). moved .kept-is)
     (moves l (b ∷ bs) long (omega arith))
 
@@ -204,7 +204,7 @@ pub record Runs (c₀ : Course) (piece : List ℕ) (from sum₀ : ℕ) (c : Cour
   pub within : at ≤ length piece
   pub rising : c .events ≤ c .last
   pub near : c .place + (length piece - at) ≤ 2 ^ 62
-  pub same : Alike c₀ (drop from piece) sum₀ c (drop at piece) sum
+  pub same : SameRest c₀ (drop from piece) sum₀ c (drop at piece) sum
 
 pub runs-start : (c : Course) (piece : List ℕ) (from sum : ℕ) → from ≤ length piece → c .events ≤ c .last → c .place + (length piece - from) ≤ 2 ^ 62
     → Runs c piece from sum c from sum

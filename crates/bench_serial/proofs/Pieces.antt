@@ -11,10 +11,10 @@ use lib.Dec.{eqb}
 use Rattle.table_rules.proofs.Tests.{le-or-lt, above-zero}
 use Rattle.reading_rules.proofs.Cases.{by-test}
 use Rattle.reading_rules.specs.declared.Ending.{Ending}
-use Rattle.serial_rules.specs.Step.{fresh, ended}
+use Rattle.serial_rules.specs.Step.{freshListener, endedListener}
 use Rattle.serial_rules.specs.Feed.{Fed, feed, feedAll}
 use Rattle.serial_rules.specs.declared.Listener.{Listener}
-use Rattle.bench_serial.specs.Listened.{sumOf, endNumber, cutUpTo, cut, pieceSize, listened, heard}
+use Rattle.bench_serial.specs.Listened.{sumOf, endNumber, cutUpTo, inPieces, pieceSize, listened, heard}
 use Rattle.bench_serial.specs.declared.Hearing.{Hearing}
 use Rattle.bench_serial.proofs.Numbers.{sum-append, drop-all}
 
@@ -45,20 +45,20 @@ pieces-on size (b ∷ bs) pos some =
 -- ---- what is told in all, behind what makes `sum`
 
 abbrev closed : ℕ → Fed → ℕ
-closed sum fed = (sum + sumOf (fed .reports) + endNumber (ended (fed .listener))) % 2 ^ 64
+closed sum fed = (sum + sumOf (fed .reports) + endNumber (endedListener (fed .listener))) % 2 ^ 64
 
 unfoldable pub whole : ℕ → Listener → List ℕ → ℕ → ℕ
 whole size l bs sum = closed sum (feedAll l (pieces size bs))
 
-pub listened-is : (size : ℕ) (file : List ℕ) → listened size file ≡ whole (pieceSize size (length file)) fresh file 0
-unfolding listened whole cut pieces
+pub listened-is : (size : ℕ) (file : List ℕ) → listened size file ≡ whole (pieceSize size (length file)) freshListener file 0
+unfolding listened whole inPieces pieces
 listened-is size file =
-    let fed : Fed = feedAll fresh (pieces (pieceSize size (length file)) file) in
-    ap (λ (n : ℕ). (n + endNumber (ended (fed .listener))) % 2 ^ 64) (sym (zero-add (sumOf (fed .reports))))
+    let fed : Fed = feedAll freshListener (pieces (pieceSize size (length file)) file) in
+    ap (λ (n : ℕ). (n + endNumber (endedListener (fed .listener))) % 2 ^ 64) (sym (zero-add (sumOf (fed .reports))))
 
-pub whole-end : (size : ℕ) (l : Listener) (sum : ℕ) → whole size l [] sum ≡ (sum + endNumber (ended l)) % 2 ^ 64
+pub whole-end : (size : ℕ) (l : Listener) (sum : ℕ) → whole size l [] sum ≡ (sum + endNumber (endedListener l)) % 2 ^ 64
 unfolding whole pieces cutUpTo feedAll sumOf
-whole-end size l sum = ap (λ (n : ℕ). n % 2 ^ 64) (no-more sum (endNumber (ended l)))
+whole-end size l sum = ap (λ (n : ℕ). n % 2 ^ 64) (no-more sum (endNumber (endedListener l)))
   where
     no-more : (x y : ℕ) → x + 0 + y ≡ x + y
     no-more x y = omega arith
@@ -71,7 +71,7 @@ whole-on size l bs sum pos some =
     let later : Fed = feedAll (now .listener) (pieces size (drop size bs)) in
     let a : ℕ = sumOf (now .reports) in
     let b : ℕ = sumOf (later .reports) in
-    let e : ℕ = endNumber (ended (later .listener)) in
+    let e : ℕ = endNumber (endedListener (later .listener)) in
     ap (λ (all : List (List ℕ)). closed sum (feedAll l all)) (pieces-on size bs pos some)
     ∙ ap (λ (n : ℕ). (sum + n + e) % 2 ^ 64) (sum-append (now .reports) (later .reports))
     ∙ ap (λ (n : ℕ). n % 2 ^ 64) (regroup sum a b e)
@@ -113,13 +113,13 @@ pub record Listens (size : ℕ) (file : List ℕ) (most : ℕ) (l : Listener) (s
   pub within : at ≤ length file
   pub same : listened size file ≡ whole most l (drop at file) sum
 
-pub listens-start : (size : ℕ) (file : List ℕ) (most : ℕ) (l : Listener) → most ≡ pieceSize size (length file) → l ≡ fresh → Listens size file most l 0 0
+pub listens-start : (size : ℕ) (file : List ℕ) (most : ℕ) (l : Listener) → most ≡ pieceSize size (length file) → l ≡ freshListener → Listens size file most l 0 0
 listens-start size file most l most-is state-is =
     record {
       within = omega arith;
       same =
           listened-is size file
-          ∙ ap (λ (n : ℕ). whole n fresh file 0) (sym most-is)
+          ∙ ap (λ (n : ℕ). whole n freshListener file 0) (sym most-is)
           ∙ ap (λ (x : Listener). whole most x file 0) (sym state-is);
     }
 
@@ -141,9 +141,9 @@ module _ (size : ℕ) (file : List ℕ) (most : ℕ) (l : Listener) (sum at : �
             ∙ ap (λ (bs : List ℕ). whole most (h .listener) bs (h .sum)) (drop-drop n at file);
       }
 
-  pub listens-end : (e : Ending) (n r : ℕ) → length file ≤ at → e ≡ ended l → n ≡ endNumber e % 2 ^ 64 → r ≡ (sum + n) % 2 ^ 64 → r ≡ listened size file
+  pub listens-end : (e : Ending) (n r : ℕ) → length file ≤ at → e ≡ endedListener l → n ≡ endNumber e % 2 ^ 64 → r ≡ (sum + n) % 2 ^ 64 → r ≡ listened size file
   listens-end e n r all end-is n-is is =
       is
       ∙ ap (λ (k : ℕ). (sum + k) % 2 ^ 64) (n-is ∙ ap (λ (x : Ending). endNumber x % 2 ^ 64) end-is)
-      ∙ add-mod-mod sum (endNumber (ended l)) (2 ^ 64)
+      ∙ add-mod-mod sum (endNumber (endedListener l)) (2 ^ 64)
       ∙ sym (listens .same ∙ ap (λ (bs : List ℕ). whole most l bs sum) (drop-all at file all) ∙ whole-end most l sum)

@@ -5,7 +5,7 @@ use lib.{ListN.length, ListN.take, ListN.drop, Dec.eqb}
 use Rattle.event_rules.specs.{Event.sequence}
 use Rattle.reading_rules.specs.{Parts.faultNumber, Account.Told, Account.Head, Account.Stretch, Account.Counts, Account.Faulty, declared.Ending.Ending}
 use Rattle.reading_rules.specs.declared.Ending.the-variants as ending
-use Rattle.serial_rules.specs.{Step.fresh, Step.ended, Feed.Fed, Feed.feed, Feed.feedAll, declared.Course.Course, declared.Listener.Listener, declared.Report.Report}
+use Rattle.serial_rules.specs.{Step.freshListener, Step.endedListener, Feed.Fed, Feed.feed, Feed.feedAll, declared.Course.Course, declared.Listener.Listener, declared.Report.Report}
 use Rattle.serial_rules.specs.declared.Report.the-variants as report
 use Rattle.bench_serial.specs.{declared.Hearing.Hearing}
 
@@ -35,16 +35,16 @@ cutUpTo (suc fuel) size (b ∷ bs) = take size (b ∷ bs) ∷ cutUpTo fuel size 
 abbrev pub pieceSize : ℕ → ℕ → ℕ
 pieceSize size all = cond (eqb size 0) all size
 
-unfoldable pub cut : ℕ → List ℕ → List (List ℕ)
-cut size file = cutUpTo (length file) (pieceSize size (length file)) file
+unfoldable pub inPieces : ℕ → List ℕ → List (List ℕ)
+inPieces size file = cutUpTo (length file) (pieceSize size (length file)) file
 
 -- ---- the whole
 
 abbrev pub summed : Fed → ℕ
-summed fed = (sumOf (fed .reports) + endNumber (ended (fed .listener))) % 2 ^ 64
+summed fed = (sumOf (fed .reports) + endNumber (endedListener (fed .listener))) % 2 ^ 64
 
 unfoldable pub listened : ℕ → List ℕ → ℕ
-listened size file = summed (feedAll fresh (cut size file))
+listened size file = summed (feedAll freshListener (inPieces size file))
 
 -- ---- one piece, behind what makes `sum`
 
@@ -58,8 +58,8 @@ abbrev pub resting : Course → List ℕ → Listener
 resting course kept = record { course = course; held = 0; kept = kept }
 
 -- whatever bytes lie there: a piece heard behind one sum leaves what its rest leaves, heard from another course behind another sum
-abbrev pub Alike : Course → List ℕ → ℕ → Course → List ℕ → ℕ → Type 0
-Alike course piece sum onward rest total = (kept : List ℕ) → length kept ≡ 32 → heard (resting course kept) piece sum ≡ heard (resting onward kept) rest total
+abbrev pub SameRest : Course → List ℕ → ℕ → Course → List ℕ → ℕ → Type 0
+SameRest course piece sum onward rest total = (kept : List ℕ) → length kept ≡ 32 → heard (resting course kept) piece sum ≡ heard (resting onward kept) rest total
 
 -- what a stride's report adds; a stride tells nothing else
 abbrev pub strideNumber : Report → List ℕ → ℕ

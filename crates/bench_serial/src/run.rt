@@ -5,7 +5,7 @@ use std::num::wrapping_add_u64;
 use strides::stride::stride;
 ghost use Prim.Native.Nat.{_+_, _-_, _^_, _≤_};
 ghost use lib.ListN.{length, drop};
-ghost use Rattle.bench_serial.specs.Listened.{Alike};
+ghost use Rattle.bench_serial.specs.Listened.{SameRest};
 
 // How far strides have come in a piece.
 pub struct Ran {
@@ -17,7 +17,7 @@ pub struct Ran {
 pub fn run(course: Course, piece: &[u8], from: usize, sum: u64) -> Ran
     requires { ⌜ (from ≤ length (now piece)) × (course .events ≤ course .last) × (course .place + (length (now piece) - from) ≤ 2 ^ 62) ⌝ }
     ensures within { λ r. ⌜ (from ≤ r .at) × (r .at ≤ length (now (piece .entry))) ⌝ }
-    ensures same { λ r. ⌜ Alike course (drop from (now (piece .entry))) sum (r .course) (drop (r .at) (now (piece .entry))) (r .sum) ⌝ }
+    ensures same { λ r. ⌜ SameRest course (drop from (now (piece .entry))) sum (r .course) (drop (r .at) (now (piece .entry))) (r .sum) ⌝ }
 {
     let mut at = from;
     let mut c = course;

@@ -9,7 +9,7 @@ use lib.ListN.{length, length-append}
 use Rattle.table_rules.proofs.Tests.{le-or-lt, either}
 use Rattle.event_rules.specs.Run.{joined}
 use Rattle.reading_rules.specs.Account.{Told, accountOf}
-use Rattle.serial_rules.specs.Step.{fresh, arrived, possible, stepped, ended}
+use Rattle.serial_rules.specs.Step.{freshListener, arrived, possible, stepped, endedListener}
 use Rattle.serial_rules.specs.Feed.{Fed, feed, feedAll}
 use Rattle.serial_rules.specs.declared.Listener.{Listener}
 use Rattle.serial_rules.specs.declared.Step.{Step}
@@ -86,35 +86,35 @@ takes l (piece ∷ pieces) sound here =
 
 -- ---- from the beginning
 
-pub fresh-sound : Sound fresh
-unfolding fresh possible
+pub fresh-sound : Sound freshListener
+unfolding freshListener possible
 fresh-sound = record { possible-is = refl; kept-is = refl }
 
-fresh-reads : (file : List ℕ) → rest fresh file ≡ accountOf file
-unfolding fresh accountOf
+fresh-reads : (file : List ℕ) → rest freshListener file ≡ accountOf file
+unfolding freshListener accountOf
 fresh-reads file = refl
 
-fresh-arrived : arrived fresh ≡ 0
-unfolding fresh
+fresh-arrived : arrived freshListener ≡ 0
+unfolding freshListener
 fresh-arrived = refl
 
 pub however-cut : HoweverCut
 however-cut pieces taken =
     let file : List ℕ = joined pieces in
-    let fed : Fed = feedAll fresh pieces in
-    let done : Done fresh pieces [] = all-good fresh pieces [] fresh-sound (omega (arith, fresh-arrived)) taken in
-    let fine : Fine fresh file [] fed = done .fine in
-    let at-end : onto (fed .reports) (rest (fed .listener) []) ≡ record { reports = fed .reports; end = ended (fed .listener) } =
+    let fed : Fed = feedAll freshListener pieces in
+    let done : Done freshListener pieces [] = all-good freshListener pieces [] fresh-sound (omega (arith, fresh-arrived)) taken in
+    let fine : Fine freshListener file [] fed = done .fine in
+    let at-end : onto (fed .reports) (rest (fed .listener) []) ≡ record { reports = fed .reports; end = endedListener (fed .listener) } =
     ap (onto (fed .reports)) (end-is (fed .listener) (fine .sound) (omega (arith, fine .counts, done .within)))
-    ∙ ap (λ (reports : List Told). record { reports = reports; end = ended (fed .listener) }) (append-nil (fed .reports)) in
+    ∙ ap (λ (reports : List Told). record { reports = reports; end = endedListener (fed .listener) }) (append-nil (fed .reports)) in
     sym (ap made-one at-end)
     ∙ sym (fine .same)
-    ∙ ap (λ (bs : List ℕ). made-one (rest fresh bs)) (append-nil file)
+    ∙ ap (λ (bs : List ℕ). made-one (rest freshListener bs)) (append-nil file)
     ∙ ap made-one (fresh-reads file)
     ∙ whole-settled file
 
 pub refused-late : RefusedLate
 refused-late pieces = (
-  λ taken. omega (arith, all-good fresh pieces [] fresh-sound (omega (arith, fresh-arrived)) taken .within, fresh-arrived),
-  λ within. takes fresh pieces fresh-sound (omega (arith, fresh-arrived)),
+  λ taken. omega (arith, all-good freshListener pieces [] fresh-sound (omega (arith, fresh-arrived)) taken .within, fresh-arrived),
+  λ within. takes freshListener pieces fresh-sound (omega (arith, fresh-arrived)),
 )

@@ -7,14 +7,14 @@ use mathlib.Core.Bool.{true}
 use mathlib.Core.List.{List, [], _++_}
 use lib.ListN.{length}
 use Rattle.table_rules.proofs.Tests.{le-or-lt}
-use Rattle.serial_rules.specs.Step.{arrived, possible, refused, stepped, ended}
+use Rattle.serial_rules.specs.Step.{arrived, possible, refusedStep, stepped, endedListener}
 use Rattle.serial_rules.specs.declared.Listener.{Listener}
 use Rattle.serial_rules.specs.declared.Step.{Step}
 use Rattle.serial_rules.proofs.Rest.{rest}
 use Rattle.serial_rules.proofs.Steps.{Good}
 use Rattle.serial_rules.proofs.Moves.{stepped-never, stepped-far, stepped-none, step-good, Moves, moves}
 use Rattle.serial_rules.proofs.Strode.{stride-is-step as strode-is}
-use Rattle.cuts.specs.State.{Keeps, StaysPossible, Impossible, Ends, StrideIsStep}
+use Rattle.cuts.specs.State.{Keeps, StaysPossible, Impossible, StepsEnd, StrideIsStep}
 use Rattle.cuts.proofs.Cut.{fresh-sound}
 
 pub stays-possible : StaysPossible
@@ -36,17 +36,17 @@ stays-possible = (fresh-sound .possible-is, fresh-sound .kept-is, step)
         (le-or-lt (arrived l + length piece) (2 ^ 62))
 
 pub impossible : Impossible
-unfolding ended
+unfolding endedListener
 impossible l e = (λ piece. stepped-never l piece e, rw e)
 
-pub steps-end : Ends
+pub steps-end : StepsEnd
 steps-end l piece long some near =
     ⊎-elim
-    (λ (e : stepped l piece ≡ refused l). absurd (not-refused e))
+    (λ (e : stepped l piece ≡ refusedStep l). absurd (not-refused e))
     (λ (moved : Moves piece (stepped l piece)). (moved .uses, moved .within))
     (moves l piece long some)
   where
-    not-refused : stepped l piece ≡ refused l → ⊥
+    not-refused : stepped l piece ≡ refusedStep l → ⊥
     not-refused e = let far : 2 ^ 62 < arrived l + length piece = Rattle.serial_rules.proofs.Moves.refused-only l piece (ap (λ (s : Step). s .report) e) .1 in omega arith
 
 pub stride-is-step : StrideIsStep

@@ -4,7 +4,7 @@ use mathlib.Core.{Path._≡_, Logic._≢_, Logic._↔_, Bool.true, List.List, Li
 use lib.{ListN.length}
 use Rattle.event_rules.specs.{Run.joined}
 use Rattle.reading_rules.specs.{Account.Account, Account.accountOf}
-use Rattle.serial_rules.specs.{Step.fresh, Step.arrived, Step.possible, Step.refused, Step.stepped, Step.ended, Feed.Fed, Feed.feed, Feed.feedAll, Feed.touching, declared.Listener.Listener}
+use Rattle.serial_rules.specs.{Step.freshListener, Step.arrived, Step.possible, Step.refusedStep, Step.stepped, Step.endedListener, Feed.Fed, Feed.feed, Feed.feedAll, Feed.touching, declared.Listener.Listener}
 use Rattle.serial_rules.specs.declared.Report.the-variants.{Refused as tellsRefused}
 
 -- no call is refused
@@ -13,13 +13,13 @@ Taken l [] = Unit {0}
 Taken l (piece ∷ pieces) = (stepped l piece .report ≢ tellsRefused) × Taken (feed l piece .listener) pieces
 
 -- the reports of all pieces, stretches that touch made one, and what the end says
-abbrev pub heard : List (List ℕ) → Account
-heard pieces =
-    let fed = feedAll fresh pieces in
-    record { reports = touching (fed .reports); end = ended (fed .listener) }
+abbrev pub toldInAll : List (List ℕ) → Account
+toldInAll pieces =
+    let fed = feedAll freshListener pieces in
+    record { reports = touching (fed .reports); end = endedListener (fed .listener) }
 
 abbrev pub HoweverCut : Type 0
-HoweverCut = (pieces : List (List ℕ)) → Taken fresh pieces → heard pieces ≡ accountOf (joined pieces)
+HoweverCut = (pieces : List (List ℕ)) → Taken freshListener pieces → toldInAll pieces ≡ accountOf (joined pieces)
 
 -- nothing is told, and the listener is as it was
 abbrev pub unheard : Listener → Fed
@@ -31,7 +31,7 @@ NoBytes = (l : Listener) → (feed l [] ≡ unheard l) × (stepped l [] .listene
 
 -- refusal 9 of any state: given where the file would pass 2^62, only there, and it changes nothing
 pub record Refusal (l : Listener) (piece : List ℕ) : Type 0 where
-  pub given : possible l ≡ true → 2 ^ 62 < arrived l + length piece → stepped l piece ≡ refused l
+  pub given : possible l ≡ true → 2 ^ 62 < arrived l + length piece → stepped l piece ≡ refusedStep l
   pub only : stepped l piece .report ≡ tellsRefused → (possible l ≡ true) × (2 ^ 62 < arrived l + length piece)
   pub nothing : stepped l piece .report ≡ tellsRefused → feed l piece ≡ unheard l
 
@@ -40,4 +40,4 @@ Refusals = (l : Listener) (piece : List ℕ) → Refusal l piece
 
 -- so no call is refused exactly if the file has at most 2^62 bytes; what has been told by then doesn't matter
 abbrev pub RefusedLate : Type 0
-RefusedLate = (pieces : List (List ℕ)) → Taken fresh pieces ↔ (length (joined pieces) ≤ 2 ^ 62)
+RefusedLate = (pieces : List (List ℕ)) → Taken freshListener pieces ↔ (length (joined pieces) ≤ 2 ^ 62)

@@ -14,7 +14,7 @@ use serial_rules::Report;
 use table_rules::Refusal;
 ghost use mathlib.Core.Path.{_≡_};
 ghost use Rattle.serial_rules.specs.Feed.{feed};
-ghost use Rattle.serial_rules.specs.Step.{fresh as nothingHeard};
+ghost use Rattle.serial_rules.specs.Step.{freshListener as nothingHeard};
 
 pub mod tell;
 

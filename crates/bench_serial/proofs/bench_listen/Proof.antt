@@ -45,14 +45,14 @@ hear-requires c κs = search needs
 
 loop-less : tie.Need-loop-less Inv-loop μ-loop
 loop-less c =
-    let cut = c .before .before .before in
-    let some = listens-some _ _ _ _ _ _ (cut .before .before .loop .inv) _ (cut .before .before .before .before .piece-size .ensures) (cut .before .loop-test .taken) (cut .least .ensures) in
-    omega (arith, cut .least .ensures, some)
+    let turn = c .before .before .before in
+    let some = listens-some _ _ _ _ _ _ (turn .before .before .loop .inv) _ (turn .before .before .before .before .piece-size .ensures) (turn .before .loop-test .taken) (turn .least .ensures) in
+    omega (arith, turn .least .ensures, some)
 
 loop-again : tie.Need-loop-again Inv-loop μ-loop
 loop-again c =
-    let cut = c .before .before .before in
-    listens-on _ _ _ _ _ _ (cut .before .before .loop .inv) _ _ (cut .before .before .before .before .piece-size .ensures) (cut .before .loop-test .taken) (cut .least .ensures)
+    let turn = c .before .before .before in
+    listens-on _ _ _ _ _ _ (turn .before .before .loop .inv) _ _ (turn .before .before .before .before .piece-size .ensures) (turn .before .loop-test .taken) (turn .least .ensures)
     (c .before .hear .ensures)
 
 end-requires : tie.Need-end-requires Inv-loop μ-loop

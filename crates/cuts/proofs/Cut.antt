@@ -1,26 +1,31 @@
 -- Pieces one after the other: each is fed as its laws say (`feed-good`), so the rest of the file is what is left to be read, by induction on the pieces.
 use Prim.Native.Nat.{ℕ, _+_, _^_, _≤_, _<_}
 use native.Mathlib.Omega.{arith}
-use mathlib.Core.Path.{_≡_, refl, sym, ap, _∙_}
+use mathlib.Core.Path.{_≡_, refl, sym, ap, subst, _∙_}
 use mathlib.Core.Logic.{⊎-elim, _≢_}
 use mathlib.Core.Bool.{true, false}
 use mathlib.Core.List.{List, [], _∷_, _++_, append-nil}
 use lib.ListN.{length, length-append}
 use Rattle.table_rules.proofs.Tests.{le-or-lt, either}
 use Rattle.event_rules.specs.Run.{joined}
-use Rattle.reading_rules.specs.Account.{Told, accountOf}
-use Rattle.serial_rules.specs.Step.{freshListener, arrived, possible, stepped, endedListener}
-use Rattle.serial_rules.specs.Feed.{Fed, feed, feedAll}
+use Rattle.reading_rules.specs.Account.{Told, Account, accountOf}
+use Rattle.reading_rules.specs.Faultless.{NoFault, Faultless}
+use Rattle.reading_rules.specs.declared.Ending.the-variants.{Nothing as saysNothing}
+use Rattle.serial_rules.specs.Step.{freshListener, arrived, possible, stepped, endedAt, endedListener}
+use Rattle.serial_rules.specs.Feed.{Fed, feedUpTo, feed, feedAll}
 use Rattle.serial_rules.specs.declared.Listener.{Listener}
 use Rattle.serial_rules.specs.declared.Step.{Step}
 use Rattle.serial_rules.specs.declared.Report.the-variants.{Refused as tellsRefused}
+use Rattle.serial_rules.specs.declared.Stage.{Stage}
+use Rattle.serial_rules.specs.declared.Stage.the-variants as stage
+use Rattle.serial_rules.proofs.Faults.{Agrees, Faults, opening≢, after≢, faults-none, faults-then, feed-faults, touching-parts, touching-both}
 use Rattle.serial_rules.proofs.Facts.{Sound}
 use Rattle.serial_rules.proofs.Touch.{onto, made-one}
 use Rattle.serial_rules.proofs.Settled.{whole-settled}
 use Rattle.serial_rules.proofs.Rest.{rest}
 use Rattle.serial_rules.proofs.Moves.{stepped-never, stepped-far, stepped-none, refused-only}
-use Rattle.serial_rules.proofs.Feeding.{Fine, nothing-fed, fed-then, feed-good, feed-empty, feed-stuck, end-is}
-use Rattle.cuts.specs.Cut.{Taken, HoweverCut, NoBytes, Refusals, RefusedLate}
+use Rattle.serial_rules.proofs.Feeding.{Fine, nothing-fed, fed-then, feed-good, feed-empty, feed-stuck, ended-is, end-is}
+use Rattle.cuts.specs.Cut.{Taken, toldInAll, HoweverCut, GoodEnd, NoBytes, Refusals, RefusedLate}
 
 -- ---- refusal
 
@@ -94,6 +99,10 @@ fresh-reads : (file : List ℕ) → rest freshListener file ≡ accountOf file
 unfolding freshListener accountOf
 fresh-reads file = refl
 
+fresh-stage : freshListener .course .stage ≡ stage.Opening
+unfolding freshListener
+fresh-stage = refl
+
 fresh-arrived : arrived freshListener ≡ 0
 unfolding freshListener
 fresh-arrived = refl
@@ -112,6 +121,64 @@ however-cut pieces taken =
     ∙ ap (λ (bs : List ℕ). made-one (rest freshListener bs)) (append-nil file)
     ∙ ap made-one (fresh-reads file)
     ∙ whole-settled file
+
+all-faults : (l : Listener) (pieces : List (List ℕ)) → Sound l → arrived l ≤ 2 ^ 62 → Taken l pieces → Faults l (feedAll l pieces)
+unfolding feedAll feed
+all-faults l [] sound here taken = faults-none l
+all-faults l (piece ∷ pieces) sound here taken =
+    let close : arrived l + length piece ≤ 2 ^ 62 = near l piece sound (taken .0) in
+    let one : Fine l piece [] (feedUpTo (length piece) l piece) = feed-good (length piece) l piece [] (omega arith) sound close in
+    let now : Fed = feedUpTo (length piece) l piece in
+    faults-then l (now .reports) (now .listener) (feedAll (now .listener) pieces) (feed-faults (length piece) l piece (omega arith) sound close)
+    (all-faults (now .listener) pieces (one .sound) (omega (arith, one .counts)) (taken .1))
+
+-- where the end says nothing, the closing was whole or a fault was told
+silent-at : (g : Stage) (l : Listener) → endedAt g l ≡ saysNothing → g ≢ stage.Stopped → g ≡ stage.After
+silent-at stage.Opening l e on = let z : _≡_ {A = ℕ} 0 1 = cc in absurd (omega arith)
+silent-at stage.Events l e on = let z : _≡_ {A = ℕ} 0 1 = cc in absurd (omega arith)
+silent-at stage.After l e on = refl
+silent-at stage.Stopped l e on = absurd (on refl)
+
+pub good-end : GoodEnd
+good-end pieces taken = (faultless, closed)
+  where
+    fed : Fed
+    fed = feedAll freshListener pieces
+
+    g : Stage
+    g = fed .listener .course .stage
+
+    whole : toldInAll pieces ≡ accountOf (joined pieces)
+    whole = however-cut pieces taken
+
+    agrees : Agrees (fed .reports) g
+    agrees =
+        all-faults freshListener pieces fresh-sound (omega (arith, fresh-arrived)) taken .going
+        (λ (e : freshListener .course .stage ≡ stage.Stopped). opening≢ (sym fresh-stage ∙ e))
+
+    at-end : endedListener (fed .listener) ≡ endedAt g (fed .listener)
+    at-end =
+        let done : Done freshListener pieces [] = all-good freshListener pieces [] fresh-sound (omega (arith, fresh-arrived)) taken in
+        ended-is (fed .listener) (done .fine .sound) (omega (arith, done .fine .counts, done .within))
+
+    faultless : g ≡ stage.After → Faultless (joined pieces)
+    faultless e =
+        record {
+          no-fault =
+              subst (λ (a : Account). NoFault (a .reports)) whole
+              (touching-both (fed .reports)
+              (⊎-elim (λ (ok : NoFault (fed .reports) × (g ≢ stage.Stopped)). ok .0)
+              (λ (bad : (NoFault (fed .reports) → ⊥) × (g ≡ stage.Stopped)). absurd (after≢ (sym e ∙ bad .1))) agrees));
+          ends-well = ap (λ (a : Account). a .end) (sym whole) ∙ at-end ∙ ap (λ (h : Stage). endedAt h (fed .listener)) e;
+        }
+
+    closed : Faultless (joined pieces) → g ≡ stage.After
+    closed ok =
+        let none : NoFault (fed .reports) = touching-parts (fed .reports) (subst (λ (a : Account). NoFault (a .reports)) (sym whole) (ok .no-fault)) in
+        let silent : endedAt g (fed .listener) ≡ saysNothing = sym at-end ∙ ap (λ (a : Account). a .end) whole ∙ ok .ends-well in
+        silent-at g (fed .listener) silent
+        (⊎-elim (λ (x : NoFault (fed .reports) × (g ≢ stage.Stopped)). x .1)
+        (λ (x : (NoFault (fed .reports) → ⊥) × (g ≡ stage.Stopped)). absurd (x .0 none)) agrees)
 
 pub refused-late : RefusedLate
 refused-late pieces = (

@@ -3,9 +3,11 @@ use Prim.Native.Nat.{ℕ, _+_, _^_, _≤_, _<_}
 use mathlib.Core.{Path._≡_, Logic._≢_, Logic._↔_, Bool.true, List.List, List.[], List._∷_}
 use lib.{ListN.length}
 use Rattle.event_rules.specs.{Run.joined}
-use Rattle.reading_rules.specs.{Account.Account, Account.accountOf}
-use Rattle.serial_rules.specs.{Step.freshListener, Step.arrived, Step.possible, Step.refusedStep, Step.stepped, Step.endedListener, Feed.Fed, Feed.feed, Feed.feedAll, Feed.touching, declared.Listener.Listener}
+use Rattle.reading_rules.specs.{Account.Account, Account.accountOf, Faultless.Faultless}
+use Rattle.serial_rules.specs.{Step.freshListener, Step.arrived, Step.possible, Step.refusedStep, Step.stepped, Step.endedListener}
+use Rattle.serial_rules.specs.{Feed.Fed, Feed.feed, Feed.feedAll, Feed.touching, declared.Listener.Listener}
 use Rattle.serial_rules.specs.declared.Report.the-variants.{Refused as tellsRefused}
+use Rattle.serial_rules.specs.declared.Stage.the-variants.{After as behindClosing}
 
 -- no call is refused
 abbrev pub Taken : Listener → List (List ℕ) → Type 0
@@ -20,6 +22,11 @@ toldInAll pieces =
 
 abbrev pub HoweverCut : Type 0
 HoweverCut = (pieces : List (List ℕ)) → Taken freshListener pieces → toldInAll pieces ≡ accountOf (joined pieces)
+
+-- a listener stands behind the closing exactly if all that arrived is a faultless file: by this a program tells its status
+abbrev pub GoodEnd : Type 0
+GoodEnd = (pieces : List (List ℕ)) → Taken freshListener pieces
+    → (feedAll freshListener pieces .listener .course .stage ≡ behindClosing) ↔ Faultless (joined pieces)
 
 -- nothing is told, and the listener is as it was
 abbrev pub unheard : Listener → Fed

@@ -37,13 +37,13 @@ abbrev pub NoBytes : Type 0
 NoBytes = (l : Listener) → (feed l [] ≡ unheard l) × (stepped l [] .listener ≡ l)
 
 -- refusal 9 of any state: given where the file would pass 2^62, only there, and it changes nothing
-pub record Refusal (l : Listener) (piece : List ℕ) : Type 0 where
+pub record RefusalNine (l : Listener) (piece : List ℕ) : Type 0 where
   pub given : possible l ≡ true → 2 ^ 62 < arrived l + length piece → stepped l piece ≡ refusedStep l
   pub only : stepped l piece .report ≡ tellsRefused → (possible l ≡ true) × (2 ^ 62 < arrived l + length piece)
   pub nothing : stepped l piece .report ≡ tellsRefused → feed l piece ≡ unheard l
 
 abbrev pub Refusals : Type 0
-Refusals = (l : Listener) (piece : List ℕ) → Refusal l piece
+Refusals = (l : Listener) (piece : List ℕ) → RefusalNine l piece
 
 -- so no call is refused exactly if the file has at most 2^62 bytes; what has been told by then doesn't matter
 abbrev pub RefusedLate : Type 0

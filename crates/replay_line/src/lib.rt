@@ -12,6 +12,12 @@ use replay_words::Command;
 use replay_words::command_of;
 use serial::listener;
 use serial_rules::Listener;
+ghost use mathlib.Core.Path.{_≡_};
+ghost use mathlib.Core.Logic.{_⊎_};
+ghost use lib.ListN.{replicate};
+ghost use Rattle.writer_rules.specs.Writer.{zeros as noneWritten};
+ghost use Rattle.reader_rules.specs.Reader.{readerWith};
+ghost use Rattle.serial_rules.specs.Step.{freshListener};
 
 // The listener stands apart from the records: its lines are given nothing else, and no other line is given it.
 pub struct Playing {
@@ -19,7 +25,12 @@ pub struct Playing {
     pub listener: Listener,
 }
 
-pub fn begun() -> Playing {
+pub fn begun() -> Playing
+    ensures lengths { λ r. ⌜ r .records .lengths ≡ replicate 4 0 ⌝ }
+    ensures writers { λ r. ⌜ r .records .writers ≡ replicate 4 noneWritten ⌝ }
+    ensures readers { λ r. ⌜ r .records .readers ≡ replicate 4 (readerWith 0 0 0 0) ⌝ }
+    ensures listener { λ r. ⌜ r .listener ≡ freshListener ⌝ }
+{
     let records = fresh();
     let listener = listener::fresh();
     Playing {
@@ -52,6 +63,7 @@ fn on_records(
     }
 }
 
+// No line changes the records and the listener both.
 pub fn step(
     line: &[u8],
     state: Playing,
@@ -60,7 +72,9 @@ pub fn step(
     third: &mut [u8],
     fourth: &mut [u8],
     out: &mut [u8],
-) -> Playing {
+) -> Playing
+    ensures { λ r. ⌜ (r .records ≡ state .records) ⊎ (r .listener ≡ state .listener) ⌝ }
+{
     let records = state.records;
     let listener = state.listener;
     let found = command_of(line);

@@ -14,6 +14,7 @@ use serial_rules::Report;
 use table_rules::Refusal;
 ghost use mathlib.Core.Path.{_≡_};
 ghost use Rattle.serial_rules.specs.Feed.{feed};
+ghost use Rattle.replay_serial.specs.Line.{fedLine, heardLine};
 ghost use Rattle.serial_rules.specs.Step.{freshListener as nothingHeard};
 
 pub mod tell;
@@ -54,7 +55,9 @@ fn answer(l: Listener, piece: &[u8]) -> Listener
 }
 
 // A line with a wrong field changes nothing.
-fn feed(line: &[u8], l: Listener) -> Listener {
+fn feed(line: &[u8], l: Listener) -> Listener
+    ensures { λ r. ⌜ r ≡ fedLine (now (line .entry)) l ⌝ }
+{
     let mut bytes = buffer_room();
     let n = hex(field(line, 1), &mut bytes);
     if n > 40960 {
@@ -80,7 +83,9 @@ fn end(l: Listener) -> Listener
 }
 
 // No buffer and no record comes here, so none is touched.
-pub fn on_listener(word: Serial, line: &[u8], l: Listener) -> Listener {
+pub fn on_listener(word: Serial, line: &[u8], l: Listener) -> Listener
+    ensures { λ r. ⌜ r ≡ heardLine word (now (line .entry)) l ⌝ }
+{
     match word {
         Serial::Fresh => {
             say::words(b"ok\n");

@@ -1,16 +1,12 @@
 -- Each test that fails answers no; past them all, the last one tells how far the state has come.
 use Prim.Native.Nat.{_+_, _^_}
 use native.Mathlib.Omega.{arith}
-use mathlib.Core.Path.{_≡_, refl, sym, _∙_}
-use mathlib.Core.Bool.{Bool, true, false, not, false≢true}
-use borrow.Author.Tests.{ltb-false}
+use mathlib.Core.Path.{sym, _∙_}
+use mathlib.Core.Bool.{true, false, false≢true}
+use borrow.Author.Tests.{ltb-false, not-true}
 use borrow.Author.Needs.{needs}
 use Rattle.bench_serial.proofs.hear.may_stride.Statement.{statement}
 use Rattle.bench_serial.proofs.hear.may_stride.Tie as tie
-
-not-true : (b : Bool) → not b ≡ true → b ≡ false
-not-true true e = absurd (false≢true e)
-not-true false e = refl
 
 returns : tie.Need-returns
 returns c = λ e. absurd (false≢true e)

@@ -1,16 +1,18 @@
-// The one number that a call answers: 0 done, 1 to 17 refused, 20 DROPPED, 21 done with wake.
+// The one number that a call answers: 0 done, 1 to 17 but 10, or 101 to 107, refused, 20 DROPPED, 21 done with wake.
 use create_rules::Created;
 use emit_rules::Outcome;
 use inspect_rules::Inspected;
 use table::paper_number;
 use table_rules::Refusal;
 ghost use mathlib.Core.Path.{_≡_};
-ghost use Rattle.table_rules.specs.Refusals.{paperNumber};
-ghost use Rattle.console_rules.specs.Console.{createdNumber, inspectedNumber, emittedNumber};
+ghost use Rattle.console_rules.specs.Console.{callNumber, createdNumber, inspectedNumber, emittedNumber};
 
 pub fn refusal_number(refusal: Refusal) -> u32
-    ensures { λ r. ⌜ r ≡ paperNumber refusal ⌝ }
+    ensures { λ r. ⌜ r ≡ callNumber refusal ⌝ }
 {
+    if let Refusal::Damaged(damage) = refusal {
+        return 100 + damage.reason as u32;
+    }
     paper_number(refusal) as u32
 }
 

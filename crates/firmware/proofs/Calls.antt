@@ -13,6 +13,7 @@ use Rattle.emit_rules.specs.declared.Outcome.{Outcome}
 use Rattle.emit_rules.specs.declared.Outcome.the-variants.{Done, Wake, Dropped, Refused}
 use Rattle.emit_rules.proofs.Kept.{emission-keeps}
 use Rattle.console_rules.specs.Console.{emittedNumber, isRefused, recordOf, bytesOf, recordAfter, Called, answeredCall}
+use Rattle.console_rules.proofs.Header.{told-by-number}
 use Rattle.console_rules.proofs.Record.{bytes-length, read-back}
 use Rattle.console_rules.proofs.Calls.{refused-leaves, done-writes, record-read}
 use Rattle.history.specs.Ring.{Ring}
@@ -29,9 +30,9 @@ means-back capacity last write size waits Done g = refl
 means-back capacity last write size waits Wake g = refl
 means-back capacity last write size waits Dropped g = refl
 means-back capacity last write size waits (Refused r) (inl g) =
-    ap means (g .0) ∙ given-one capacity last write size waits (Refused Spent) (Refused r) (inl (refl, g .1)) (inl g)
+    ap means (told-by-number r (λ e. omega (arith, g .0, e)) ∙ g .0) ∙ given-one capacity last write size waits (Refused Spent) (Refused r) (inl (refl, g .1)) (inl g)
 means-back capacity last write size waits (Refused r) (inr g) =
-    ap means (g .0) ∙ given-one capacity last write size waits (Refused Far) (Refused r) (inr (refl, g .1, g .2, g .3)) (inr g)
+    ap means (told-by-number r (λ e. omega (arith, g .0, e)) ∙ g .0) ∙ given-one capacity last write size waits (Refused Far) (Refused r) (inr (refl, g .1, g .2, g .3)) (inr g)
 
 -- a record that goes with a ring is read back from its bytes
 pub holds-read : (cpu capacity : ℕ) (s : List ℕ) (w : Writer) (ring : Ring Event) → Holds cpu capacity s w ring → recordOf (bytesOf w) ≡ w

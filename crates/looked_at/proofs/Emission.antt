@@ -45,7 +45,7 @@ module _ {s t : List ℕ} (g : Agree s t) (w : Writer) where
 
   ended-agree : (p : Page) (event : List ℕ) (end : Walk) → Agreeing (ended s p w event end) (ended t p w event end)
   ended-agree p event walks.NoRoom = refuse-agree refusal.NoRoom
-  ended-agree p event (walks.Damaged position) = refuse-agree (refusal.Damaged position)
+  ended-agree p event (walks.Damaged damage) = refuse-agree (refusal.Damaged damage)
   ended-agree p event (walks.Room tail passed) =
       cond-both Agreeing (disagrees w passed) (refuse-agree refusal.Disagree) (acceptance-agree p event tail passed)
 

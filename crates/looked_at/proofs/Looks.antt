@@ -11,7 +11,7 @@ use Rattle.page_rules.proofs.Same as pages
 use Rattle.look_rules.specs.Live.{live}
 use Rattle.look_rules.proofs.Laws as looks
 use Rattle.event_rules.specs.Run.{soundRun}
-use Rattle.inspect_rules.specs.Inspect.{walked, surveyed, damaged, inspectedOn, inspected}
+use Rattle.inspect_rules.specs.Inspect.{walked, surveyed, damaged, damageFound, inspectedOn, inspected}
 use Rattle.reader_rules.specs.Attach.{attached}
 use Rattle.reader_rules.specs.Read.{readAt, readOpened, readOut}
 use Rattle.reader_rules.specs.declared.Reader.{Reader}
@@ -43,9 +43,13 @@ module _ {s t : List ℕ} (g : Agree s t) where
   unfolding surveyed
   surveyed-same p = rw (walked-same p)
 
+  pub damage-same : (p : Page) → damageFound t p ≡ damageFound s p
+  unfolding damageFound
+  damage-same p = rw (surveyed-same p, looks.rest-same s t data-same p)
+
   pub inspected-same : inspected t ≡ inspected s
   unfolding onRing inspected inspectedOn damaged
-  inspected-same = rw (rows-same, page-same, surveyed-same (pageOf s))
+  inspected-same = rw (rows-same, page-same, surveyed-same (pageOf s), damage-same (pageOf s))
 
   pub attached-same : (reader : Reader) → attached t reader ≡ attached s reader
   unfolding onRing attached
@@ -57,7 +61,7 @@ module _ {s t : List ℕ} (g : Agree s t) where
 
   pub followed-same : (reader : Reader) → followed t reader ≡ followed s reader
   unfolding onRing followed followedOn followRows onward damaged
-  followed-same reader = rw (rows-same, page-same, surveyed-same (pageOf s), walked-same (pageOf s))
+  followed-same reader = rw (rows-same, page-same, surveyed-same (pageOf s), damage-same (pageOf s), walked-same (pageOf s))
 
   pub recording-same : recordingOf t ≡ recordingOf s
   unfolding recordingOf
@@ -65,4 +69,4 @@ module _ {s t : List ℕ} (g : Agree s t) where
 
   pub recorded-same : (placed : ℕ) (out : List ℕ) → recorded t placed out ≡ recorded s placed out
   unfolding onRing recorded recordedOn recordingRows beyondEnd damaged
-  recorded-same placed out = rw (rows-same, page-same, surveyed-same (pageOf s), recording-same)
+  recorded-same placed out = rw (rows-same, page-same, surveyed-same (pageOf s), damage-same (pageOf s), recording-same)

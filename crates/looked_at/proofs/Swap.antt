@@ -14,7 +14,7 @@ use Rattle.inspect_rules.specs.Inspect.{damaged}
 use Rattle.swap_rules.specs.Swap.{AfterSwap, refusedSwap, refuseSwap, countDiffers, swapRows, retired, carriedOver, exchangeOn, exchange}
 use Rattle.looked_at.specs.LookedAt.{Agree, AgreeStill, MadeAlike}
 use Rattle.looked_at.proofs.Writes.{unwritten, and-then, agree-still, put-still, flag-same, notified-still}
-use Rattle.looked_at.proofs.Looks.{page-same, rows-same, walked-same, surveyed-same}
+use Rattle.looked_at.proofs.Looks.{page-same, rows-same, walked-same, surveyed-same, damage-same}
 
 module _ {s t : List ℕ} (g : Agree s t) (new new′ : List ℕ) (long : length new′ ≡ length new) (w : Writer) where
   abbrev Agreeing : AfterSwap → AfterSwap → Type 0
@@ -26,7 +26,7 @@ module _ {s t : List ℕ} (g : Agree s t) (new new′ : List ℕ) (long : length
 
   swap-rows-same : (p : Page) → swapRows t p new′ w ≡ swapRows s p new w
   unfolding swapRows wrongSize damaged countDiffers
-  swap-rows-same p = rw (long, surveyed-same g p)
+  swap-rows-same p = rw (long, surveyed-same g p, damage-same g p)
 
   retired-still : (p : Page) → AgreeStill s t (retired s p) (retired t p)
   unfolding retired

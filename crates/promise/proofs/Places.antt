@@ -11,6 +11,7 @@ use lib.Dec.{eqb, ltb}
 use borrow.Author.Tests.{eqb-true, eqb-false}
 use Rattle.run_rules.specs.Runs.{Rising, lastOf}
 use Rattle.table_rules.specs.Table.{first, Stops}
+use Rattle.table_rules.specs.declared.Damage.{Damage}
 use Rattle.table_rules.specs.declared.Refusal.the-variants as refusal
 use Rattle.table_rules.proofs.Laws.{stops, stopped, first-map}
 use Rattle.table_rules.proofs.Tests.{either, le-or-lt}
@@ -19,9 +20,9 @@ use Rattle.page_rules.proofs.Facts.{Sound}
 use Rattle.page_rules.specs.declared.Page.{Page}
 use Rattle.page_rules.specs.declared.Opened.the-variants as opens
 use Rattle.page_rules.proofs.Sound.{sound}
-use Rattle.event_rules.specs.Event.{eventSize, sequence, wellFormed}
-use Rattle.event_rules.specs.Run.{joined, passable, Each, soundRun}
-use Rattle.event_rules.specs.Walk.{walkFrom}
+use Rattle.event_rules.specs.Event.{eventSize, sequence, wellFormed, reasonOf}
+use Rattle.event_rules.specs.Run.{joined, passable, reasonAfter, damageAfter, Each, soundRun}
+use Rattle.event_rules.specs.Walk.{illAt, walkFrom}
 use Rattle.event_rules.specs.declared.Walk.{Walk}
 use Rattle.event_rules.specs.declared.Walk.the-variants as walks
 use Rattle.event_rules.proofs.Facts.{Cut, aimed}
@@ -29,8 +30,9 @@ use Rattle.event_rules.proofs.Runs.{afterRun, run-cut, cut-run}
 use Rattle.event_rules.proofs.Walks.{Ended, walk-ends, walk-damaged}
 use Rattle.look_rules.specs.Live.{rest, live}
 use Rattle.look_rules.proofs.Laws.{rest-length, live-length, rest-drop}
-use Rattle.inspect_rules.specs.Inspect.{walked, surveyed, damaged, inspectionRow, inspectedOn, inspected}
+use Rattle.inspect_rules.specs.Inspect.{walked, surveyed, damaged, damageFound, inspectionRow, inspectedOn, inspected}
 use Rattle.inspect_rules.specs.declared.Inspected.the-variants as inspects
+use Rattle.inspect_rules.proofs.Surveys.{damage-is}
 use Rattle.inspect_rules.proofs.Answers.{inspected-sound, inspected-whole, inspected-damaged}
 use Rattle.writer_rules.specs.Writer.{wrongWriter}
 use Rattle.writer_rules.specs.declared.Writer.{Writer}
@@ -64,7 +66,10 @@ use Rattle.promise.specs.Places.{UpTo, Places}
 differ : {A : Type 0} → _≡_ {A = ℕ} 0 1 → A
 differ z = absurd (let never : ⊥ = omega arith in never)
 
-module _ (s : List ℕ) (p : Page) (is : opened s ≡ opens.Page p) (at : ℕ) where
+module _ (s : List ℕ) (p : Page) (is : opened s ≡ opens.Page p) (d : Damage) where
+  abbrev at : ℕ
+  at = d .position
+
   h : Sound s p
   h = sound s p is
 
@@ -97,12 +102,13 @@ module _ (s : List ℕ) (p : Page) (is : opened s ≡ opens.Page p) (at : ℕ) w
   -- ---- inspection
 
   abbrev Told : Type 0
-  Told = inspected s ≡ inspects.Refused (refusal.Damaged at)
+  Told = inspected s ≡ inspects.Refused (refusal.Damaged d)
 
   abbrev Stopping : Type 0
   Stopping =
       (events : List (List ℕ)) × UpTo s p events at × Rising sequence 0 events
       × (passable (p .«cpu_id») (lastOf sequence 0 events) (rest s p at) ≡ false)
+      × (d .reason ≡ reasonAfter (p .«cpu_id») (lastOf sequence 0 events) (rest s p at))
 
   stopping : Told → Stopping
   unfolding surveyed walked
@@ -116,30 +122,36 @@ module _ (s : List ℕ) (p : Page) (is : opened s ≡ opens.Page p) (at : ℕ) w
       let behind : List ℕ = afterRun (p .«cpu_id») 0 (live s p) in
       let cut : Cut (p .«cpu_id») 0 (live s p) run behind = run-cut (p .«cpu_id») 0 (live s p) in
       let told = inspected-damaged s p h (eqb-false (surveyed s p .stop) (p .«write_pos») short) in
-      let here : at ≡ surveyed s p .stop = cc in
+      let same : damageFound s p ≡ d = cc in
+      let found = sym same ∙ damage-is s p in
+      let here : at ≡ surveyed s p .stop = ap (λ (x : Damage). x .position) found in
       let more : 0 < length behind =
       omega (arith, lengths run behind (cut .split) here, eqb-false (surveyed s p .stop) (p .«write_pos») short, h .order) in (
         run,
         up-to run behind (cut .split) here (cut .whole .0) more,
         cut .whole .1,
         subst (λ (bs : List ℕ). passable (p .«cpu_id») (lastOf sequence 0 run) bs ≡ false) (behind-is run behind (cut .split) here) (cut .stops),
+        ap (λ (x : Damage). x .reason) found ∙ ap (λ (n : ℕ). reasonAfter (p .«cpu_id») (lastOf sequence 0 run) (rest s p n)) (sym here),
       ))
       (either (eqb (surveyed s p .stop) (p .«write_pos»)))
 
   stopped-there : Stopping → Told
   unfolding surveyed walked
-  stopped-there (events, up, rises, bad) =
+  stopped-there (events, up, rises, bad, why) =
       let run : walked s p ≡ events = cut-run (record { split = up .split; whole = (up .each, rises); stops = bad }) in
       let stop : surveyed s p .stop ≡ at = ap (λ (l : List (List ℕ)). p .«tail_pos» + length (joined l)) run ∙ place-is events up in
       inspected-damaged s p h (λ (e : surveyed s p .stop ≡ p .«write_pos»). omega (arith, up .below, stop, e))
-      ∙ ap (λ (n : ℕ). inspects.Refused (refusal.Damaged n)) stop
+      ∙ ap (λ (x : Damage). inspects.Refused (refusal.Damaged x)) (damage-is s p)
+      ∙ ap (λ (n : ℕ). inspects.Refused (refusal.Damaged (damageAfter (p .«cpu_id») (lastOf sequence 0 (walked s p)) n (rest s p n)))) stop
+      ∙ ap (λ (l : List (List ℕ)). inspects.Refused (refusal.Damaged (damageAfter (p .«cpu_id») (lastOf sequence 0 l) at (rest s p at)))) run
+      ∙ ap (λ (n : ℕ). inspects.Refused (refusal.Damaged (record { position = at; reason = n }))) (sym why)
 
   -- by the row that swap and follow ask too
-  by-row : damaged s p ≡ true → refusal.Damaged (surveyed s p .stop) ≡ refusal.Damaged at → Told
+  by-row : damaged s p ≡ true → refusal.Damaged (damageFound s p) ≡ refusal.Damaged d → Told
   unfolding inspectedOn
-  by-row met there = inspected-sound s p h ∙ stops inspects.Refused _ 0 (inspectionRow s p ∷ []) (refusal.Damaged at) (met, there)
+  by-row met there = inspected-sound s p h ∙ stops inspects.Refused _ 0 (inspectionRow s p ∷ []) (refusal.Damaged d) (met, there)
 
-  swap-row : (t : List ℕ) (w : Writer) (turn : ℕ) → Stops turn (swapRows s p t w) (refusal.Damaged at) → Told
+  swap-row : (t : List ℕ) (w : Writer) (turn : ℕ) → Stops turn (swapRows s p t w) (refusal.Damaged d) → Told
   unfolding swapRows
   swap-row t w zero r = differ (cc (r .1))
   swap-row t w (suc zero) r = differ (cc (r .1 .1))
@@ -148,47 +160,47 @@ module _ (s : List ℕ) (p : Page) (is : opened s ≡ opens.Page p) (at : ℕ) w
   swap-row t w (suc (suc (suc (suc zero)))) r = differ (cc (r .1 .1 .1 .1 .1))
   swap-row t w (suc (suc (suc (suc (suc turn))))) r = absurd (r .1 .1 .1 .1 .1)
 
-  swaps-there : (t : List ℕ) (w : Writer) → exchange s t w .answer .outcome ≡ swaps.Refused (refusal.Damaged at) → Told
+  swaps-there : (t : List ℕ) (w : Writer) → exchange s t w .answer .outcome ≡ swaps.Refused (refusal.Damaged d) → Told
   unfolding exchangeOn carriedOver
   swaps-there t w e =
       let row =
-      stopped swaps.Refused (exchanging (wakes (needWake s))) (swapRows s p t w) (refusal.Damaged at) (λ r q. cc) (never (wakes (needWake s)))
+      stopped swaps.Refused (exchanging (wakes (needWake s))) (swapRows s p t w) (refusal.Damaged d) (λ r q. cc) (never (wakes (needWake s)))
       (sym (first-map (λ (a : AfterSwap). a .answer .outcome) (swapRefuse s t w) (carriedOver s p t w) (swapRows s p t w))
       ∙ sym (ap (λ (a : AfterSwap). a .answer .outcome) (swapCases.on-sound s t w p h)) ∙ e) in
       swap-row t w (row .0) (row .1)
     where
-      never : (b : Bool) → exchanging b ≡ swaps.Refused (refusal.Damaged at) → ⊥
+      never : (b : Bool) → exchanging b ≡ swaps.Refused (refusal.Damaged d) → ⊥
       never true q = differ (cc)
       never false q = differ (cc)
 
-  recording-row : (placed turn : ℕ) → Stops turn (recordingRows s p placed) (refusal.Damaged at) → Told
+  recording-row : (placed turn : ℕ) → Stops turn (recordingRows s p placed) (refusal.Damaged d) → Told
   unfolding recordingRows
   recording-row placed zero r = by-row (r .0) (r .1)
   recording-row placed (suc zero) r = differ (cc (r .1 .1))
   recording-row placed (suc (suc turn)) r = absurd (r .1 .1)
 
-  records-there : (placed : ℕ) (out : List ℕ) → recorded s placed out .answer ≡ records.Refused (refusal.Damaged at) → Told
+  records-there : (placed : ℕ) (out : List ℕ) → recorded s placed out .answer ≡ records.Refused (refusal.Damaged d) → Told
   unfolding recordedOn
   records-there placed out e =
       let row =
-      stopped records.Refused _ (recordingRows s p placed) (refusal.Damaged at) (λ r q. cc)
+      stopped records.Refused _ (recordingRows s p placed) (refusal.Damaged d) (λ r q. cc)
       (λ q. differ (cc))
       (sym (first-map (λ (a : AfterRecord). a .answer) (notRecorded out) _ (recordingRows s p placed))
       ∙ sym (ap (λ (a : AfterRecord). a .answer) (recorded-on s placed out p h)) ∙ e) in
       recording-row placed (row .0) (row .1)
 
-  follow-row : (reader : Reader) (turn : ℕ) → Stops turn (followRows s p reader) (refusal.Damaged at) → Told
+  follow-row : (reader : Reader) (turn : ℕ) → Stops turn (followRows s p reader) (refusal.Damaged d) → Told
   unfolding followRows
   follow-row reader zero r = differ (cc (r .1))
   follow-row reader (suc zero) r = differ (cc (r .1 .1))
   follow-row reader (suc (suc zero)) r = by-row (r .1 .1 .0) (r .1 .1 .1)
   follow-row reader (suc (suc (suc turn))) r = absurd (r .1 .1 .1)
 
-  follows-there : (reader : Reader) → followed s reader .answer ≡ attaches.Refused (refusal.Damaged at) → Told
+  follows-there : (reader : Reader) → followed s reader .answer ≡ attaches.Refused (refusal.Damaged d) → Told
   unfolding followedOn
   follows-there reader e =
       let row =
-      stopped attaches.Refused attaches.Done (followRows s p reader) (refusal.Damaged at) (λ r q. cc)
+      stopped attaches.Refused attaches.Done (followRows s p reader) (refusal.Damaged d) (λ r q. cc)
       (λ q. differ (cc))
       (sym (first-map (λ (a : Attached). a .answer) (notAttached reader) _ (followRows s p reader))
       ∙ sym (ap (λ (a : Attached). a .answer) (followCases.on-sound s reader p h)) ∙ e) in
@@ -207,38 +219,39 @@ module _ (s : List ℕ) (p : Page) (is : opened s ≡ opens.Page p) (at : ℕ) w
     Stuck =
         (wrongWriter w ≡ false) × Acceptable (p .capacity) (w .last) (p .«write_pos») size
         × (events : List (List ℕ)) × UpTo s p events at × (p .capacity < p .«write_pos» + size - at)
-        × (wellFormed (p .«cpu_id») (rest s p at) ≡ false)
+        × (wellFormed (p .«cpu_id») (rest s p at) ≡ false) × (d .reason ≡ reasonOf (p .«cpu_id») (p .«write_pos» - at) (rest s p at))
 
     abbrev says : AfterEmit → Type 0
-    says a = a .answer .outcome ≡ emits.Refused (refusal.Damaged at)
+    says a = a .answer .outcome ≡ emits.Refused (refusal.Damaged d)
 
     dropped-says : says (dropped s w label) → Stuck
     unfolding dropped
     dropped-says q = differ (cc)
 
     -- no other end of the walk says so
-    ended-damaged : (x : Walk) → says (ended s p w (eventOf p w label payload) x) → x ≡ walks.Damaged at
+    ended-damaged : (x : Walk) → says (ended s p w (eventOf p w label payload) x) → x ≡ walks.Damaged d
     unfolding acceptance
     ended-damaged walks.NoRoom q = differ (cc)
-    ended-damaged (walks.Damaged position) q = cc
+    ended-damaged (walks.Damaged damage) q = cc
     ended-damaged (walks.Room tail passed) q = by (disagrees w passed) q
       where
-        told : (b : Bool) → accepting b ≡ emits.Refused (refusal.Damaged at) → walks.Room tail passed ≡ walks.Damaged at
+        told : (b : Bool) → accepting b ≡ emits.Refused (refusal.Damaged d) → walks.Room tail passed ≡ walks.Damaged d
         told true q = differ (cc)
         told false q = differ (cc)
 
         by : (b : Bool) → cond b (emitRefuse s w refusal.Disagree) (acceptance s p w (eventOf p w label payload) tail passed) .answer .outcome
-            ≡ emits.Refused (refusal.Damaged at) → walks.Room tail passed ≡ walks.Damaged at
+            ≡ emits.Refused (refusal.Damaged d) → walks.Room tail passed ≡ walks.Damaged d
         by true q = differ (cc)
         by false q = told (wakes (needWake s)) q
 
     -- what that end tells of the bytes
-    walk-stuck : wrongWriter w ≡ false → Acceptable (p .capacity) (w .last) (p .«write_pos») size → end ≡ walks.Damaged at → Stuck
+    walk-stuck : wrongWriter w ≡ false → Acceptable (p .capacity) (w .last) (p .«write_pos») size → end ≡ walks.Damaged d → Stuck
     walk-stuck right fit e =
         let ends = walk-ends (p .«cpu_id») (p .capacity) size (live s p) (p .«tail_pos») 0 in
         let gone : List (List ℕ) = ends .0 in
         let behind : List ℕ = ends .1 in
-        let told : (at ≡ p .«tail_pos» + length (joined gone)) × (wellFormed (p .«cpu_id») behind ≡ false) × (p .capacity < length behind + size) =
+        let told : (at ≡ p .«tail_pos» + length (joined gone)) × (wellFormed (p .«cpu_id») behind ≡ false) × (p .capacity < length behind + size)
+        × (d .reason ≡ reasonOf (p .«cpu_id») (length behind) behind) =
         subst (Ended (p .«cpu_id») (p .capacity) size (p .«tail_pos») 0 gone behind) e (ends .3) in
         let split : live s p ≡ joined gone ++ behind = ends .2 .split in
         let is-rest : behind ≡ rest s p at = behind-is gone behind split (told .0) in
@@ -249,6 +262,8 @@ module _ (s : List ℕ) (p : Page) (is : opened s ≡ opens.Page p) (at : ℕ) w
           up,
           omega (arith, told .2, ap length is-rest ∙ rest-length s p at, up .below),
           ap (wellFormed (p .«cpu_id»)) (sym is-rest) ∙ told .1,
+          told .3 ∙ ap (λ (bs : List ℕ). reasonOf (p .«cpu_id») (length bs) bs) is-rest
+              ∙ ap (λ (n : ℕ). reasonOf (p .«cpu_id») n (rest s p at)) (rest-length s p at),
         )
 
     emit-stuck : says (emission s w label payload) → Stuck
@@ -278,22 +293,25 @@ module _ (s : List ℕ) (p : Page) (is : opened s ≡ opens.Page p) (at : ℕ) w
         told-by e f = f (subst says (emitCases.on-sound s w label payload p h ∙ e) q)
 
     emits-there : Stuck → says (emission s w label payload)
-    emits-there (right, fit, events, up, over, bad) =
+    emits-there (right, fit, events, up, over, bad, why) =
         let lengths : length (rest s p at) ≡ p .«write_pos» - at = rest-length s p at in
-        let ends : end ≡ walks.Damaged at =
+        let ends : end ≡ walks.Damaged d =
         ap (λ (bs : List ℕ). walkFrom (aimed (p .«cpu_id») (p .capacity) size) bs (p .«tail_pos») 0) (up .split)
         ∙ walk-damaged (p .«cpu_id») (p .capacity) size events (rest s p at) (up .each)
         (omega (arith, up .below)) (omega (arith, up .below)) bad (p .«tail_pos») 0
-        ∙ ap walks.Damaged (place-is events up) in
+        ∙ ap (λ (n : ℕ). illAt (p .«cpu_id») n (rest s p at)) (place-is events up)
+        ∙ ap (λ (n : ℕ). walks.Damaged (record { position = at; reason = reasonOf (p .«cpu_id») n (rest s p at) })) lengths
+        ∙ ap (λ (n : ℕ). walks.Damaged (record { position = at; reason = n })) (sym why) in
         ap (λ (a : AfterEmit). a .answer .outcome)
         (emitCases.on-sound s w label payload p h
         ∙ emitCases.is-placed s w label payload p right (fit .0) (fit .1) (fit .2)
-        ∙ emitCases.walk-ended s w label payload p (walks.Damaged at) ends)
+        ∙ emitCases.walk-ended s w label payload p (walks.Damaged d) ends)
 
   -- ---- reading
 
-  reads-there : (reader : Reader) (out : List ℕ) → readOut s reader out .answered .answer ≡ reads.Refused (refusal.Damaged at)
+  reads-there : (reader : Reader) (out : List ℕ) → readOut s reader out .answered .answer ≡ reads.Refused (refusal.Damaged d)
       → (at ≡ readingPlace p reader) × (passable (p .«cpu_id») (reader .last) (rest s p at) ≡ false)
+      × (d .reason ≡ reasonAfter (p .«cpu_id») (reader .last) (rest s p at))
   unfolding readOpened readAt eventRows ending first
   reads-there reader out e =
       by (wrongReader p reader) (eqb (reader .«read_pos») (p .«write_pos»)) (eqb place (p .«write_pos»)) (eqb (p .generation) (reader .generation))
@@ -310,9 +328,9 @@ module _ (s : List ℕ) (p : Page) (is : opened s ≡ opens.Page p) (at : ℕ) w
           → first ((wrong, refusal.Reader) ∷ []) (untouched reader out)
           (cond ended (nothing (cond same reads.Empty reads.Moved) (reader .«read_pos») reader out)
           (cond stands (nothing (cond same reads.Empty reads.Moved) place reader out)
-          (first ((not passes, refusal.Damaged place) ∷ (short, refusal.Out) ∷ []) (untouched reader out) (handedOut reader out place bs))))
-          .answered .answer ≡ reads.Refused (refusal.Damaged at)
-          → (at ≡ place) × (passable (p .«cpu_id») (reader .last) (rest s p at) ≡ false)
+          (first ((not passes, refusal.Damaged (damageAfter (p .«cpu_id») (reader .last) place bs)) ∷ (short, refusal.Out) ∷ []) (untouched reader out) (handedOut reader out place bs))))
+          .answered .answer ≡ reads.Refused (refusal.Damaged d)
+          → (at ≡ place) × (passable (p .«cpu_id») (reader .last) (rest s p at) ≡ false) × (d .reason ≡ reasonAfter (p .«cpu_id») (reader .last) (rest s p at))
       by true ended stands same passes short is e = differ (cc)
       by false true stands true passes short is e = differ (cc)
       by false true stands false passes short is e = differ (cc)
@@ -321,18 +339,22 @@ module _ (s : List ℕ) (p : Page) (is : opened s ≡ opens.Page p) (at : ℕ) w
       by false false false same true true is e = differ (cc)
       by false false false same true false is e = differ (cc)
       by false false false same false short is e =
-          let there : at ≡ place = cc in
-          (there, ap (λ (n : ℕ). passable (p .«cpu_id») (reader .last) (rest s p n)) there ∙ is)
+          let found : d ≡ damageAfter (p .«cpu_id») (reader .last) place bs = cc in
+          let there : at ≡ place = ap (λ (x : Damage). x .position) found in (
+            there,
+            ap (λ (n : ℕ). passable (p .«cpu_id») (reader .last) (rest s p n)) there ∙ is,
+            ap (λ (x : Damage). x .reason) found ∙ ap (λ (n : ℕ). reasonAfter (p .«cpu_id») (reader .last) (rest s p n)) (sym there),
+          )
 
 pub places : Places
-places s p is at = record {
-  inspect = (stopping s p is at, stopped-there s p is at);
-  swap = swaps-there s p is at;
-  follow = follows-there s p is at;
-  recording = records-there s p is at;
+places s p is d = record {
+  inspect = (stopping s p is d, stopped-there s p is d);
+  swap = swaps-there s p is d;
+  follow = follows-there s p is d;
+  recording = records-there s p is d;
   emit = λ w label payload. (
-    λ e. let r = emit-stuck s p is at w label payload e in (r .0, r .1, r .2, r .3, omega (arith, r .4), r .5),
-    λ r. emits-there s p is at w label payload (r .0, r .1, r .2, r .3, omega (arith, r .4), r .5),
+    λ e. let r = emit-stuck s p is d w label payload e in (r .0, r .1, r .2, r .3, omega (arith, r .4), r .5, r .6),
+    λ r. emits-there s p is d w label payload (r .0, r .1, r .2, r .3, omega (arith, r .4), r .5, r .6),
   );
-  read = λ reader out e. let r = reads-there s p is at reader out e in (omega (arith, r .0), r .1);
+  read = λ reader out e. let r = reads-there s p is d reader out e in (omega (arith, r .0), r .1, r .2);
 }

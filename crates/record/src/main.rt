@@ -24,7 +24,7 @@ fn main() {
             io::write_all(STDOUT_FILENO, &out[..count]);
             io::write_all(STATUS_FILENO, &digit(Ended::Good));
         }
-        Kind::Reason => {
+        Kind::Hindrance => {
             io::write_all(STDERR_FILENO, &out[..count]);
             io::write_all(STATUS_FILENO, &digit(Ended::Other));
         }

@@ -11,7 +11,8 @@ layout-line : refusalLine Layout ≡ 114 ∷ 101 ∷ 102 ∷ 117 ∷ 115 ∷ 101
 unfolding refusalLine worded decimal
 layout-line = refl
 
--- `refused 10 at 288`
-damaged-line : refusalLine (Damaged 288) ≡ 114 ∷ 101 ∷ 102 ∷ 117 ∷ 115 ∷ 101 ∷ 100 ∷ 32 ∷ 49 ∷ 48 ∷ 32 ∷ 97 ∷ 116 ∷ 32 ∷ 50 ∷ 56 ∷ 56 ∷ 10 ∷ []
+-- `refused 10 at 288 why 5`
+damaged-line : refusalLine (Damaged (record { position = 288; reason = 5 }))
+    ≡ 114 ∷ 101 ∷ 102 ∷ 117 ∷ 115 ∷ 101 ∷ 100 ∷ 32 ∷ 49 ∷ 48 ∷ 32 ∷ 97 ∷ 116 ∷ 32 ∷ 50 ∷ 56 ∷ 56 ∷ 32 ∷ 119 ∷ 104 ∷ 121 ∷ 32 ∷ 53 ∷ 10 ∷ []
 unfolding refusalLine worded decimal
 damaged-line = refl

@@ -19,11 +19,19 @@ refused = 114 ∷ 101 ∷ 102 ∷ 117 ∷ 115 ∷ 101 ∷ 100 ∷ 32 ∷ []
 abbrev pub atPlace : List ℕ
 atPlace = 32 ∷ 97 ∷ 116 ∷ 32 ∷ []
 
--- the place of a refusal that bears one
-abbrev pub placeText : List ℕ → List ℕ
-placeText [] = []
-placeText (place ∷ places) = worded atPlace place
+-- " why "
+abbrev pub forReason : List ℕ
+forReason = 32 ∷ 119 ∷ 104 ∷ 121 ∷ 32 ∷ []
 
--- `refused 4`, or `refused 10 at 288`
+-- the values of a refusal that bears some: a place, and a reason behind it
+abbrev pub reasonText : List ℕ → List ℕ
+reasonText [] = []
+reasonText (reason ∷ more) = worded forReason reason
+
+abbrev pub valuesText : List ℕ → List ℕ
+valuesText [] = []
+valuesText (place ∷ more) = worded atPlace place ++ reasonText more
+
+-- `refused 4`, or `refused 10 at 288 why 5`
 unfoldable pub refusalLine : Refusal → List ℕ
-refusalLine refusal = worded refused (paperNumber refusal) ++ placeText (paperValues refusal) ++ (newline ∷ [])
+refusalLine refusal = worded refused (paperNumber refusal) ++ valuesText (paperValues refusal) ++ (newline ∷ [])

@@ -3,7 +3,7 @@ use Prim.Native.Nat.{ℕ}
 use mathlib.Core.{Path._≡_, List.List}
 use Rattle.text.specs.{Put.Front}
 use Rattle.refusal_text.specs.{declared.Kind.Kind, declared.Replied.Replied}
-use Rattle.refusal_text.specs.declared.Kind.the-variants.{Wanted, Reason}
+use Rattle.refusal_text.specs.declared.Kind.the-variants.{Wanted, Hindrance}
 
 pub record Reply : Type 0 where
   pub kind : Kind
@@ -12,8 +12,8 @@ pub record Reply : Type 0 where
 abbrev pub wanted : List ℕ → Reply
 wanted bytes = record { kind = Wanted; bytes = bytes }
 
-abbrev pub reason : List ℕ → Reply
-reason line = record { kind = Reason; bytes = line }
+abbrev pub hindrance : List ℕ → Reply
+hindrance line = record { kind = Hindrance; bytes = line }
 
 -- a buffer was l and is m: the reply's bytes stand at its front, and r says their number and the kind
 pub record Stands (l : List ℕ) (reply : Reply) (m : List ℕ) (r : Replied) : Type 0 where

@@ -1,17 +1,16 @@
 -- Demand 1: each operation's definition is gone through test by test, beside the rows of its table.
-use Prim.Native.Nat.{ℕ, _+_, _-_}
+use Prim.Native.Nat.{ℕ, _+_, _-_, _<_}
 use native.Mathlib.Omega.{arith}
-use mathlib.Core.Path.{_≡_, refl, sym, ap, _∙_, subst}
-use mathlib.Core.Logic.{_↔_}
+use mathlib.Core.Path.{_≡_, refl, sym, ap, _∙_}
 use mathlib.Core.Bool.{Bool, true, false, _&&_, cond, true≢false}
 use mathlib.Core.List.{List, [], _∷_, _++_}
 use lib.ListN.{length}
 use lib.Dec.{eqb}
-use Rattle.table_rules.specs.Table.{first, Stops}
+use Rattle.table_rules.specs.Table.{first}
 use Rattle.table_rules.specs.Refusals.{paperNumber, paperName}
 use Rattle.table_rules.specs.declared.Refusal.{Refusal}
 use Rattle.table_rules.specs.declared.Refusal.the-variants as refusal
-use Rattle.table_rules.proofs.Numbers.{named-at, is-numbered}
+use Rattle.table_rules.proofs.Numbers.{is-numbered}
 use Rattle.page_rules.specs.Page.{pageOf, pageRows, onRing}
 use Rattle.page_rules.specs.declared.Page.{Page}
 use Rattle.page_rules.specs.Fresh.{blank}
@@ -27,7 +26,7 @@ use Rattle.emit_rules.specs.Emit as emit
 use Rattle.emit_rules.specs.declared.Label.{Label}
 use Rattle.emit_rules.specs.declared.Outcome.{Outcome}
 use Rattle.emit_rules.specs.declared.Outcome.the-variants as emits
-use Rattle.inspect_rules.specs.Inspect.{surveyed, summary, inspectionRow, inspectedOn, inspected}
+use Rattle.inspect_rules.specs.Inspect.{surveyed, summary, damageFound, inspectionRow, inspectedOn, inspected}
 use Rattle.inspect_rules.specs.declared.Survey.{Survey}
 use Rattle.inspect_rules.specs.declared.Summary.{Summary}
 use Rattle.inspect_rules.specs.declared.Inspected.{Inspected}
@@ -46,9 +45,10 @@ use Rattle.swap_rules.specs.declared.SwapOutcome.{SwapOutcome}
 use Rattle.swap_rules.specs.declared.SwapOutcome.the-variants as swaps
 use Rattle.recording_rules.specs.Recording.{AfterRecord, notRecorded, beyondEnd, recordingRows, recordedOn, recorded}
 use Rattle.recording_rules.specs.declared.Recorded.{Recorded}
-use Rattle.console_rules.specs.Console.{createdNumber, inspectedNumber, emittedNumber, isRefused, recordOf, recordAfter}
+use Rattle.console_rules.specs.Console.{callNumber, createdNumber, inspectedNumber, emittedNumber, isRefused, recordOf, recordAfter}
 use Rattle.console_rules.specs.Console.{Called, refusedCall, recordRows, emitCall}
-use Rattle.refusals.specs.Demand1.{Asked, walkTable, badPlace, emitTable, inspectTable, Demand1}
+use Rattle.console_rules.proofs.Header.{told-by}
+use Rattle.refusals.specs.Demand1.{Asked, noDamage, walkTable, walkDamage, emitTable, inspectTable, Demand1}
 use Rattle.refusals.proofs.Rows.{Outcomes, Fits, refuses, says, past, either, ask, asks, asked}
 
 -- ---- what C is told too: for any way to tell an answer by which no other one is a refusal's
@@ -67,7 +67,7 @@ module _ {A : Type 0} (say : Created → A) (done : (r : Refusal) → say create
       by true = refuses creations refusal.Size
       by false = past creations (says creations refl done)
 
-  create-asked : Asked (λ r. say (creates.Refused r)) 0 (λ refusal. (wrongSize s, refusal 16) ∷ (true, say creates.Done) ∷ []) (say (created s))
+  create-asked : Asked (λ r. say (creates.Refused r)) noDamage (λ refusal. (wrongSize s, refusal 16) ∷ (true, say creates.Done) ∷ []) (say (created s))
       (afterCreate cpu s ≡ s)
   create-asked = asked creations create-fits
 
@@ -78,11 +78,11 @@ module _ {A : Type 0} (say : Inspected → A) (whole : (v : Summary) (r : Refusa
   abbrev v : Survey
   v = surveyed s (pageOf s)
 
-  inspect-fits : Fits inspections (inspectTable s (say (inspects.Whole (summary v))) (λ n. say (inspects.Refused (paperName (v .stop) n)))) (inspected s)
+  inspect-fits : Fits inspections (inspectTable s (say (inspects.Whole (summary v))) (λ n. say (inspects.Refused (paperName (damageFound s (pageOf s)) n)))) (inspected s)
   unfolding onRing inspected inspectedOn pageRows
   inspect-fits = asks inspections (pageRows s) (asks inspections (inspectionRow s (pageOf s) ∷ []) (says inspections refl (whole (summary v))))
 
-  inspect-asked : Asked (λ r. say (inspects.Refused r)) (v .stop) (inspectTable s (say (inspects.Whole (summary v)))) (say (inspected s)) (Unit {0})
+  inspect-asked : Asked (λ r. say (inspects.Refused r)) (damageFound s (pageOf s)) (inspectTable s (say (inspects.Whole (summary v)))) (say (inspected s)) (Unit {0})
   inspect-asked = asked inspections inspect-fits
 
 module _ {A : Type 0} (say : Outcome → A) (other : (e : Outcome) → isRefused e ≡ false → (r : Refusal) → say e ≡ say (emits.Refused r) → ⊥)
@@ -96,11 +96,11 @@ module _ {A : Type 0} (say : Outcome → A) (other : (e : Outcome) → isRefused
 
   ended-fits : (p : Page) (event : List ℕ) (end : Walk)
       → Fits emissions
-      (walkTable w end (λ n. say (emits.Refused (paperName (badPlace end) n))) ++ ((wakes (needWake s), say emits.Wake) ∷ (true, say emits.Done) ∷ []))
+      (walkTable w end (λ n. say (emits.Refused (paperName (walkDamage end) n))) ++ ((wakes (needWake s), say emits.Wake) ∷ (true, say emits.Done) ∷ []))
       (emit.ended s p w event end)
   unfolding emit.acceptance first
   ended-fits p event walks.NoRoom = refuses emissions refusal.NoRoom
-  ended-fits p event (walks.Damaged place) = refuses emissions (refusal.Damaged place)
+  ended-fits p event (walks.Damaged damage) = refuses emissions (refusal.Damaged damage)
   ended-fits p event (walks.Room tail passed) =
       asks emissions ((emit.disagrees w passed, refusal.Disagree) ∷ [])
       (either emissions (wakes (needWake s)) (accepted (wakes (needWake s))) (other emits.Wake refl) (other emits.Done refl))
@@ -108,7 +108,7 @@ module _ {A : Type 0} (say : Outcome → A) (other : (e : Outcome) → isRefused
   emit-fits : (label : Label) (payload : List ℕ)
       → Fits emissions
       (emitTable s w (32 + length payload) (say emits.Dropped) (say emits.Wake) (say emits.Done)
-      (λ n. say (emits.Refused (paperName (badPlace (emit.walkEnd s (pageOf s) (32 + length payload))) n))))
+      (λ n. say (emits.Refused (paperName (walkDamage (emit.walkEnd s (pageOf s) (32 + length payload))) n))))
       (emit.emission s w label payload)
   unfolding onRing emit.emission emit.emittedOn emit.writerRows emit.dropped emit.placed pageRows
   emit-fits label payload =
@@ -119,7 +119,7 @@ module _ {A : Type 0} (say : Outcome → A) (other : (e : Outcome) → isRefused
       (ended-fits (pageOf s) (emit.eventOf (pageOf s) w label payload) (emit.walkEnd s (pageOf s) (32 + length payload))))))
 
   emit-asked : (label : Label) (payload : List ℕ)
-      → Asked (λ r. say (emits.Refused r)) (badPlace (emit.walkEnd s (pageOf s) (32 + length payload)))
+      → Asked (λ r. say (emits.Refused r)) (walkDamage (emit.walkEnd s (pageOf s) (32 + length payload)))
       (emitTable s w (32 + length payload) (say emits.Dropped) (say emits.Wake) (say emits.Done)) (say (emit.emission s w label payload .answer .outcome))
       (as-came (emit.emission s w label payload))
   emit-asked label payload = asked emissions (emit-fits label payload)
@@ -127,26 +127,14 @@ module _ {A : Type 0} (say : Outcome → A) (other : (e : Outcome) → isRefused
 -- ---- the numbers that C is told
 
 -- 0, 20 and 21 are no refusal's
-free : (n : ℕ) → (paperNumber (paperName 0 n) ≡ n → ⊥) → (r : Refusal) → n ≡ paperNumber r → ⊥
-free n differ r e = differ (is-numbered r n e)
+free : (n : ℕ) → n < 100 → (paperNumber (paperName noDamage n) ≡ n → ⊥) → (r : Refusal) → n ≡ callNumber r → ⊥
+free n below differ r = told-by (λ k. n ≡ k → ⊥) r (λ k e. omega arith) (λ other e. differ (is-numbered noDamage r n e))
 
-emitted-free : (e : Outcome) → isRefused e ≡ false → (r : Refusal) → emittedNumber e ≡ paperNumber r → ⊥
-emitted-free emits.Done is = free 0 (λ e. omega arith)
-emitted-free emits.Wake is = free 21 (λ e. omega arith)
-emitted-free emits.Dropped is = free 20 (λ e. omega arith)
+emitted-free : (e : Outcome) → isRefused e ≡ false → (r : Refusal) → emittedNumber e ≡ callNumber r → ⊥
+emitted-free emits.Done is = free 0 (omega arith) (λ e. omega arith)
+emitted-free emits.Wake is = free 21 (omega arith) (λ e. omega arith)
+emitted-free emits.Dropped is = free 20 (omega arith) (λ e. omega arith)
 emitted-free (emits.Refused r) is = absurd (true≢false is)
-
--- no place is told
-unplaced : (place : ℕ) {table : (ℕ → ℕ) → List (Bool × ℕ)} {answer : ℕ} {as-came : Type 0}
-    → Asked paperNumber place table answer as-came → Asked paperNumber 0 table answer as-came
-unplaced place {table} {answer} h =
-    record {
-      exact =
-          λ a.
-          subst (λ (refusal : ℕ → ℕ). (answer ≡ a) ↔ ((turn : ℕ) × Stops turn (table refusal) a))
-          (λ i n. (named-at place n ∙ sym (named-at 0 n)) i) (h .exact a);
-      kept = h .kept;
-    }
 
 abbrev calls : (s bytes : List ℕ) → Outcomes Called ℕ
 calls s bytes =
@@ -233,14 +221,12 @@ demand1 =
           asked o
           (asks o (pageRows s)
           (asks o (recordingRows s (pageOf s) placed) (says o refl (λ r e. let z : _≡_ {A = ℕ} 0 1 = cc in omega arith))));
-      create-call = create-asked createdNumber (free 0 (λ e. omega arith));
+      create-call = create-asked createdNumber (free 0 (omega arith) (λ e. omega arith));
       emit-call =
           λ s bytes timestamp type class payload.
-          let size = 32 + length payload in
-          unplaced (badPlace (emit.walkEnd s (pageOf s) size))
-          (asked (calls s bytes)
+          asked (calls s bytes)
           (asks (calls s bytes) (recordRows bytes)
           (emit-fits emittedNumber emitted-free s (recordOf bytes) (λ x. (x .ring ≡ s) × (recordAfter bytes (x .answer) ≡ bytes)) (λ r. (refl, refl))
-          (record { timestamp = timestamp; «event_type» = type; «origin_class» = class }) payload)));
-      inspect-call = λ s. unplaced (surveyed s (pageOf s) .stop) (inspect-asked inspectedNumber (λ v. free 0 (λ e. omega arith)) s);
+          (record { timestamp = timestamp; «event_type» = type; «origin_class» = class }) payload));
+      inspect-call = inspect-asked inspectedNumber (λ v. free 0 (omega arith) (λ e. omega arith));
     }

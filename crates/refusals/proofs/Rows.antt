@@ -5,8 +5,9 @@ use mathlib.Core.Bool.{Bool, true, false, cond, true≢false, false≢true}
 use mathlib.Core.List.{List, [], _∷_, _++_, map}
 use Rattle.table_rules.specs.Table.{first, Stops}
 use Rattle.table_rules.specs.Refusals.{paperName}
+use Rattle.table_rules.specs.declared.Damage.{Damage}
 use Rattle.table_rules.specs.declared.Refusal.{Refusal}
-use Rattle.refusals.specs.Demand1.{Asked}
+use Rattle.refusals.specs.Demand1.{noDamage, Asked}
 
 module _ {A : Type 0} (a b : A) (rows : List (Bool × A)) where
   settled : (turn : ℕ) → Stops turn ((true, a) ∷ rows) b → a ≡ b
@@ -29,7 +30,7 @@ module _ {X A : Type 0} (o : Outcomes X A) where
   refused r = o .answer (o .refuse r)
 
   abbrev pub Fits : List (Bool × A) → X → Type 0
-  Fits rows x = Asked refused 0 (λ refusal. rows) (o .answer x) (o .as-came x)
+  Fits rows x = Asked refused noDamage (λ refusal. rows) (o .answer x) (o .as-came x)
 
   -- a row that holds
   settles : {a : A} {rows : List (Bool × A)} {x : X} → o .answer x ≡ a → ((r : Refusal) → o .answer x ≡ refused r → o .as-came x) → Fits ((true, a) ∷ rows) x
@@ -79,6 +80,6 @@ module _ {X A : Type 0} (o : Outcomes X A) where
   asks ((true, r) ∷ rs) fits = refuses r
   asks ((false, r) ∷ rs) fits = past (asks rs fits)
 
-  pub asked : {place : ℕ} {table : (ℕ → A) → List (Bool × A)} {x : X} → Fits (table (λ n. refused (paperName place n))) x
-      → Asked refused place table (o .answer x) (o .as-came x)
+  pub asked : {damage : Damage} {table : (ℕ → A) → List (Bool × A)} {x : X} → Fits (table (λ n. refused (paperName damage n))) x
+      → Asked refused damage table (o .answer x) (o .as-came x)
   asked fits = record { exact = fits .exact; kept = fits .kept }

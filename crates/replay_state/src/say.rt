@@ -33,8 +33,9 @@ pub fn bytes(buffer: &[u8]) {
 
 pub fn refusal(refused: Refusal) {
     number(b"refused ", paper_number(refused) as u64);
-    if let Refusal::Damaged(position) = refused {
-        number(b" at ", position);
+    if let Refusal::Damaged(damage) = refused {
+        number(b" at ", damage.position);
+        number(b" why ", damage.reason as u64);
     }
 }
 

@@ -21,6 +21,10 @@ pub fn number(label: &[u8], n: u64) {
 
 pub fn refusal(refused: Refusal) {
     number(b" refused ", paper_number(refused) as u64);
+    if let Refusal::Damaged(damage) = refused {
+        number(b" at ", damage.position);
+        number(b" why ", damage.reason as u64);
+    }
 }
 
 pub fn outcome(answer: Outcome) {

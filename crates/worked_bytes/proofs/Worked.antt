@@ -4,7 +4,7 @@ use mathlib.Core.Path.{_≡_, refl, ap, _∙_}
 use mathlib.Core.Bool.{false, not}
 use lib.ListN.{length}
 use Rattle.run_rules.specs.Runs.{latest, older}
-use Rattle.table_rules.specs.Table.{first, any}
+use Rattle.table_rules.specs.Table.{first, any, firstFrom}
 use Rattle.word_rules.specs.Number.{number, byteOf, put}
 use Rattle.word_rules.specs.Fields.{putAll}
 use Rattle.capacity_rules.specs.Capacity.{powerAmong, allowed}
@@ -13,15 +13,15 @@ use Rattle.page_rules.specs.Page.{wrongLength, wrongPosition, pageRows, onRing,
 use Rattle.page_rules.specs.Wake.{wakes, raised, notified}
 use Rattle.page_rules.specs.Fresh.{blank}
 use Rattle.region_rules.specs.Region.{bytesAt, storeAt}
-use Rattle.event_rules.specs.Event.{faults, wellFormed, headerOf, eventBytes}
-use Rattle.event_rules.specs.Run.{joined, passable, runUpTo, soundRun}
+use Rattle.event_rules.specs.Event.{faults, wellFormed, reasonOf, headerOf, eventBytes}
+use Rattle.event_rules.specs.Run.{joined, passable, reasonAfter, runUpTo, soundRun}
 use Rattle.event_rules.specs.Walk.{walkUpTo, walkFrom}
 use Rattle.look_rules.specs.Live.{rest, live}
 use Rattle.writer_rules.specs.Writer.{oneDropped, oneAccepted, someDiscarded, outstanding, wrongWriter}
 use Rattle.create_rules.specs.Create.{wrongSize}
 use Rattle.create_rules.proofs.Laws.{size-passed}
 use Rattle.emit_rules.specs.Emit.{writerRows, tooLarge, dropped, tooFar, disagrees, eventOf, stored, acceptance, placed, emittedOn, emission}
-use Rattle.inspect_rules.specs.Inspect.{walked, surveyed, damaged, inspectedOn, inspected}
+use Rattle.inspect_rules.specs.Inspect.{walked, surveyed, damaged, damageFound, inspectedOn, inspected}
 use Rattle.reader_rules.specs.Reader.{miscounted, ahead, wrongReader, atTail, movedTo, handedOne}
 use Rattle.reader_rules.specs.Attach.{attached}
 use Rattle.reader_rules.specs.Read.{ending, eventRows, readAt, readOpened, readOut}
@@ -47,7 +47,7 @@ pages =
     }
 
 reads : WorkedReads
-unfolding pages inspected inspectedOn damaged surveyed walked soundRun runUpTo passable wellFormed faults live rest bytesAt joined
+unfolding pages inspected inspectedOn damaged damageFound surveyed walked soundRun runUpTo passable reasonAfter reasonOf firstFrom wellFormed faults live rest bytesAt joined
     atTail movedTo handedOne attached readOut readOpened wrongReader miscounted ahead ending readAt eventRows
 reads =
     record {

@@ -1,7 +1,7 @@
 -- The count that was matched is one that the answer bears, so that it is small: the cast loses nothing, and the sum fits.
 use Prim.Native.Nat.{_≤_}
 use native.Mathlib.Omega.{arith}
-use mathlib.Core.Path.{sym, ap}
+use mathlib.Core.Path.{sym, ap, _∙_}
 use Rattle.bench_calls.specs.Calls.{recordedNumber}
 use borrow.Author.Needs.{needs}
 use Rattle.bench_calls.proofs.recorded_number.Statement.{statement}
@@ -29,7 +29,7 @@ returns : tie.Need-returns
 returns c = sym (ap recordedNumber (c .before .recorded .given .1))
 
 returns-2 : tie.Need-returns-2
-returns-2 c = search needs
+returns-2 c = c .refusal-number .ensures ∙ sym (ap recordedNumber (c .before .before .recorded2 .given .1))
 
 pub recorded-number-spec : {M : Type 1} → statement M
 recorded-number-spec =

@@ -81,6 +81,11 @@ pub fn word(line: &[u8], index: usize) -> String {
     text.split_whitespace().nth(index).unwrap_or("").to_string()
 }
 
+/// A word that is known to be a number.
+pub fn number(text: &[u8], index: usize) -> u64 {
+    word(text, index).parse().unwrap()
+}
+
 fn refusals(counts: &Counts, number: u8) -> usize {
     counts.iter().filter(|((_, answer), _)| *answer == refused(number)).map(|(_, count)| count).sum()
 }

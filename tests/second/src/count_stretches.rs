@@ -1,7 +1,8 @@
 //! How often each call meets an event that goes over the data's end, by how many of its bytes stand before it, and one that only
 //! comes up to it. The answers don't tell, so the scripts are played.
 
-use crate::count::{gathered, word};
+use crate::count::{gathered, number, word};
+use crate::count_rings::{capacity, data, ring_of, size, tail, write};
 use crate::script::Machine;
 use crate::stored::lines;
 use std::collections::BTreeMap;
@@ -128,12 +129,6 @@ fn add(counts: &mut Counts, script: &[u8]) {
     }
 }
 
-/// The buffer that stands first in the line, empty if none does; a swap's old ring has its events after the call too.
-fn ring_of<'a>(machine: &'a Machine, line: &[u8]) -> &'a [u8] {
-    let buffer: Option<usize> = word(line, 1).parse().ok();
-    buffer.and_then(|buffer| machine.buffers.get(buffer)).map_or(&[], Vec::as_slice)
-}
-
 fn met(machine: &Machine, line: &[u8], answer: &[u8], before: &[u8]) -> Vec<(Call, String)> {
     let ring = ring_of(machine, line);
     let events = match (word(line, 0).as_str(), word(answer, 0).as_str()) {
@@ -189,35 +184,14 @@ fn refused(ring: &[u8], answer: &[u8]) -> Vec<(Call, String)> {
 
 /// One behind the other, between places that the call has found to be right.
 fn events(ring: &[u8], places: Range<u64>) -> Vec<Event> {
-    let capacity = capacity(ring);
     let mut events = Vec::new();
     let mut at = places.start;
     while at < places.end {
-        let size = (0..4).map(|step| u64::from(ring[8192 + ((at + step) % capacity) as usize]) << (8 * step)).sum();
-        events.push(Event { at, size, capacity });
+        let size = size(&data(ring, at, 4));
+        events.push(Event { at, size, capacity: capacity(ring) });
         at += size;
     }
     events
-}
-
-fn capacity(ring: &[u8]) -> u64 {
-    word_at(ring, 16)
-}
-
-fn write(ring: &[u8]) -> u64 {
-    word_at(ring, 64)
-}
-
-fn tail(ring: &[u8]) -> u64 {
-    word_at(ring, 72)
-}
-
-fn word_at(ring: &[u8], at: usize) -> u64 {
-    u64::from_le_bytes(ring[at..at + 8].try_into().unwrap())
-}
-
-fn number(text: &[u8], index: usize) -> u64 {
-    word(text, index).parse().unwrap()
 }
 
 #[cfg(test)]

@@ -1,7 +1,9 @@
 //! The second implementation: what `replay` must answer, and scripts to ask it.
 
 mod count;
+mod count_reasons;
 mod count_recordings;
+mod count_rings;
 mod count_serial;
 mod count_stretches;
 mod count_wakes;
@@ -45,7 +47,8 @@ fn count(folder: &Path) -> Result<(), String> {
     count_wakes::print(folder)?;
     count_recordings::print(folder)?;
     count_stretches::print(folder)?;
-    count_serial::print(folder)
+    count_serial::print(folder)?;
+    count_reasons::print(folder)
 }
 
 /// One byte above the longest script tells that it is too long; the rest need not be held.

@@ -7,6 +7,7 @@ mod life;
 mod mixed;
 mod pen;
 mod random;
+mod reasons;
 mod recordings;
 mod serial;
 mod sketch;
@@ -19,7 +20,7 @@ type Kind = (&'static str, u64, fn(&mut Pen));
 
 /// Name and script of each of the stored set.
 pub fn scripts() -> Vec<(&'static str, Vec<u8>)> {
-    let kinds: [Kind; 7] = [
+    let kinds: [Kind; 8] = [
         ("life", 101, life::write),
         ("damage", 202, damage::write),
         ("edges", 303, edges::write),
@@ -27,6 +28,7 @@ pub fn scripts() -> Vec<(&'static str, Vec<u8>)> {
         ("recordings", 505, recordings::write),
         ("stretches", 606, stretches::write),
         ("serial", 707, serial::write),
+        ("reasons", 808, reasons::write),
     ];
     kinds.into_iter().map(|(name, seed, write)| (name, written(seed, write))).collect()
 }

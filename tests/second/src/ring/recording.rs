@@ -206,7 +206,7 @@ mod tests {
         for placed in [0, 8, 288, 289, u64::MAX] {
             for lent in [0, 8, 40] {
                 let mut output = vec![0xEE; lent];
-                assert_eq!(record(&ring, placed, &mut output), Err(Refusal::Damaged(416)));
+                assert_eq!(record(&ring, placed, &mut output), Err(Refusal::Damaged { at: 416, why: Reason::HeaderSize }));
                 assert_eq!(output, vec![0xEE; lent]);
             }
         }

@@ -1,5 +1,7 @@
 //! The refusal numbers.
 
+use super::Reason;
+
 /// Number 17 has no case here: it is given by the C call alone.
 #[derive(Clone, Copy, Debug, PartialEq, Eq)]
 pub enum Refusal {
@@ -12,8 +14,11 @@ pub enum Refusal {
     Writer,
     Spent,
     Far,
-    /// With the position of the event.
-    Damaged(u64),
+    /// With the position of the event and the first reason that holds there.
+    Damaged {
+        at: u64,
+        why: Reason,
+    },
     Disagree,
     NoRoom,
     Reader,
@@ -34,7 +39,7 @@ impl Refusal {
             Refusal::Writer => 7,
             Refusal::Spent => 8,
             Refusal::Far => 9,
-            Refusal::Damaged(_) => 10,
+            Refusal::Damaged { .. } => 10,
             Refusal::Disagree => 11,
             Refusal::NoRoom => 12,
             Refusal::Reader => 13,

@@ -193,7 +193,7 @@ impl Machine {
 fn said(answer: Result<impl ToString, Refusal>) -> String {
     match answer {
         Ok(answer) => answer.to_string(),
-        Err(Refusal::Damaged(at)) => format!("refused 10 at {at}"),
+        Err(Refusal::Damaged { at, why }) => format!("refused 10 at {at} why {}", why.number()),
         Err(refusal) => format!("refused {}", refusal.number()),
     }
 }

@@ -60,6 +60,19 @@ fn records_are_handed_back_and_kept() {
     assert_eq!(answers(script), expected);
 }
 
+/// By every line that looks at events. An emission comes to the second event, where cpu_id is wrong; a smaller one doesn't.
+#[test]
+fn a_bad_event_is_told_with_its_place_and_reason() {
+    let four_events = format!("size 0 8448\ncreate 0 3\n{}put 0 8262 04\n", "emitlen 0 0 1 1 1 32\n".repeat(4));
+    let script = "reader 0 64 1 1 0\nsize 1 8448\ninspect 0\nrecord 0 0 8\nread 0 0 100\nfollow 0 0\nswap 0 1 0\n\
+                  emitlen 0 0 1 1 1 96\nemitlen 0 0 1 1 1 32\n";
+    let answers = answers(&format!("{four_events}{script}"));
+    let refused = "refused 10 at 64 why 5";
+    let (reader, writer) = (format!("{refused} reader 64 1 1 0"), format!("{refused} writer 4 0 0"));
+    let expected = [refused, refused, &reader, &reader, &writer, &writer, "done writer 5 0 1"];
+    assert_eq!(answers.lines().collect::<Vec<&str>>()[9..], expected);
+}
+
 #[test]
 fn a_recording_is_put_at_the_front_of_the_output() {
     let script = "size 0 8448\ncreate 0 258\nrecord 0 0 9\nrecord 0 1 4\nrecord 0 0 0\nrecord 0 9 40960\nrecord 0 32 1\n";
@@ -75,7 +88,7 @@ fn refused_recordings_show_no_record_and_leave_the_output() {
                   record 0 18446744073709551616 8\nrecord 0 0\nrecord 1 0 8\nput 0 64 01\nrecord 0 33 8\noutsum\n";
     let answers = answers(script);
     let answers: Vec<&str> = answers.lines().collect();
-    assert_eq!(answers[4..11], ["refused 13", "refused 13", "unknown", "unknown", "refused 1", "ok", "refused 10 at 0"]);
+    assert_eq!(answers[4..11], ["refused 13", "refused 13", "unknown", "unknown", "refused 1", "ok", "refused 10 at 0 why 1"]);
     assert_eq!(answers[3], answers[11]);
 }
 

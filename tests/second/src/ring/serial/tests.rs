@@ -2,6 +2,7 @@
 
 use super::*;
 use crate::ring;
+use crate::ring::chance::Chance;
 
 /// With cpu_id 0x0102.
 const OPENING_BYTES: [u8; 8] = [0x53, 0x50, 0x4C, 1, 0, 2, 1, 0];
@@ -283,16 +284,6 @@ fn joined(pieces: &[&[u8]]) -> Vec<Report> {
     }
     reports.extend(reader.end());
     reports
-}
-
-/// Splitmix64 stands in the generator; a plain congruence does for these.
-struct Chance(u64);
-
-impl Chance {
-    fn below(&mut self, bound: usize) -> usize {
-        self.0 = self.0.wrapping_mul(6_364_136_223_846_793_005).wrapping_add(1_442_695_040_888_963_407);
-        (self.0 >> 33) as usize % bound
-    }
 }
 
 fn any_file(chance: &mut Chance) -> Vec<u8> {

@@ -6,8 +6,8 @@
 
 #include <stdio.h>
 
-#if LAMIPEONGA_VERSION_MAJOR != 1
-#error "written for version 1 of lamipeonga.h"
+#if LAMIPEONGA_VERSION_MAJOR != 2
+#error "written for version 2 of lamipeonga.h"
 #endif
 
 #define CPU_ID 3
@@ -31,7 +31,9 @@ static int refused(const char *what, uint32_t answer)
 {
     static const char *const names[] = {
         NAMED(SHORT), NAMED(MAGIC), NAMED(VERSION), NAMED(LAYOUT), NAMED(LENGTH), NAMED(POSITION), NAMED(WRITER),
-        NAMED(SPENT), NAMED(FAR), NAMED(DAMAGED), NAMED(DISAGREE), NAMED(SIZE), NAMED(RECORD),
+        NAMED(SPENT), NAMED(FAR), NAMED(DISAGREE), NAMED(SIZE), NAMED(RECORD),
+        NAMED(DAMAGED_LEFT), NAMED(DAMAGED_HEADER_SIZE), NAMED(DAMAGED_EVENT_SIZE), NAMED(DAMAGED_WRITE_POS),
+        NAMED(DAMAGED_CPU_ID), NAMED(DAMAGED_SPARE), NAMED(DAMAGED_SEQUENCE),
     };
     const char *name = answer < sizeof names / sizeof names[0] ? names[answer] : NULL;
     printf("%s: refused, %s (%u)\n", what, name != NULL ? name : "which none of these calls answers", (unsigned)answer);

@@ -19,10 +19,10 @@
  *   - DONE: go on.
  *   - WAKE: the event is stored. Wake whoever waits at LAMIPEONGA_FUTEX_COUNTER_AT, which the call has moved already, and go on.
  *   - DROPPED: count it, report it and go on. The same event would be dropped again; the number that it used up shows readers the gap.
- *   - 1 to 17, refused: stop and report the number. No byte has changed, and the same call would be refused again.
+ *   - 1 to 17 without 10, and 101 to 107, refused: stop and report the number. No byte has changed, and the same call would be refused again.
  *       SHORT, LENGTH, SIZE, RECORD: look at the lengths passed first.
- *       MAGIC, VERSION, LAYOUT, POSITION, WRITER, DAMAGED, DISAGREE: no ring was created here, the record is another ring's, or someone else
- *       wrote into ring or record.
+ *       MAGIC, VERSION, LAYOUT, POSITION, WRITER, DISAGREE and the seven DAMAGED: no ring was created here, the record is another ring's, or
+ *       someone else wrote into ring or record.
  *       SPENT, FAR: numbers or positions have run out. Keep the ring for its readers and create another.
  * That older events were overwritten is no answer of its own: the record counts them.
  *
@@ -43,15 +43,16 @@ extern "C" {
 
 /*
  * of this header: MAJOR goes up when a caller must be changed, MINOR when something is only added
+ *   2.0  101 to 107 in place of 10, which is never answered any more: whoever compared with LAMIPEONGA_DAMAGED now compares with these seven
  *   1.1  WAKE at every need_wake but 0; in 1.0 at 1 alone
  */
-#define LAMIPEONGA_VERSION_MAJOR 1
-#define LAMIPEONGA_VERSION_MINOR 1
+#define LAMIPEONGA_VERSION_MAJOR 2
+#define LAMIPEONGA_VERSION_MINOR 0
 
 /* of a ring's bytes: the number at offset 8, 4 bytes; any other is refused, see LAMIPEONGA_VERSION below */
 #define LAMIPEONGA_FORMAT_VERSION 1
 
-/* what a call answers; a refusal (1 to 17) has changed no byte of any buffer */
+/* what a call answers; a refusal (1 to 17 without 10, and 101 to 107) has changed no byte of any buffer */
 enum lamipeonga_answer {
     LAMIPEONGA_DONE = 0,
 
@@ -67,7 +68,7 @@ enum lamipeonga_answer {
     LAMIPEONGA_WRITER = 7,    /* the record's counts can't be right: dropped above last, or overwritten above last - dropped */
     LAMIPEONGA_SPENT = 8,     /* no sequence is left: last is 2^64 - 1 */
     LAMIPEONGA_FAR = 9,       /* the event would end above position 2^62 */
-    LAMIPEONGA_DAMAGED = 10,  /* an event met isn't well formed; lamipeonga_inspect also: its sequence doesn't rise */
+    /* 10 is never answered: 101 to 107 below say more */
     LAMIPEONGA_DISAGREE = 11, /* ring and record can't both be right: more events would be overwritten than the record says were stored */
 
     /* never answered by the three calls below: they stand for the whole table */
@@ -80,7 +81,20 @@ enum lamipeonga_answer {
     LAMIPEONGA_RECORD = 17, /* lamipeonga_emit: the record isn't 24 bytes; asked before all else */
 
     LAMIPEONGA_DROPPED = 20, /* lamipeonga_emit: the event is larger than half the capacity; counted in the record, the ring untouched */
-    LAMIPEONGA_WAKE = 21     /* lamipeonga_emit: done, and the consumer waits: futex_counter went up, wake it */
+    LAMIPEONGA_WAKE = 21,    /* lamipeonga_emit: done, and the consumer waits: futex_counter went up, wake it */
+
+    /*
+     * An event met is bad, and this is why: 100 + the reason. They are asked in this order, and the first one that holds counts.
+     * lamipeonga_inspect answers 101 to 107. lamipeonga_emit answers 102 to 106 only: it looks at the oldest events, from each of which more than
+     * half the capacity lies up to write_pos, so that 101 can't hold, and it doesn't look at sequences.
+     */
+    LAMIPEONGA_DAMAGED_LEFT = 101,        /* fewer than 32 bytes lie from its first one to write_pos */
+    LAMIPEONGA_DAMAGED_HEADER_SIZE = 102, /* its header_size isn't 32 */
+    LAMIPEONGA_DAMAGED_EVENT_SIZE = 103,  /* its event_size is under 32 */
+    LAMIPEONGA_DAMAGED_WRITE_POS = 104,   /* it runs past write_pos */
+    LAMIPEONGA_DAMAGED_CPU_ID = 105,      /* its cpu_id isn't the ring's */
+    LAMIPEONGA_DAMAGED_SPARE = 106,       /* one of its three bytes that are to be zero isn't */
+    LAMIPEONGA_DAMAGED_SEQUENCE = 107     /* it is well formed, but its sequence doesn't rise: it isn't above that of the event before, or above 0 */
 };
 
 #define LAMIPEONGA_LEAST_CAPACITY 256
@@ -112,8 +126,8 @@ uint32_t lamipeonga_create(uint8_t *ring, size_t ring_bytes, uint16_t cpu_id);
  *   timestamp                in ns
  *   event_type, origin_class any numbers
  *   payload, payload_bytes   the event's content, of any length; none is a length of 0
- * Answers DONE; WAKE, which is done too; DROPPED if LAMIPEONGA_HEADER_BYTES + payload_bytes is above half the capacity; or one of SHORT to DISAGREE
- * and RECORD. DONE, WAKE and DROPPED use up one sequence number.
+ * Answers DONE; WAKE, which is done too; DROPPED if LAMIPEONGA_HEADER_BYTES + payload_bytes is above half the capacity; or one of SHORT to DISAGREE,
+ * DAMAGED_HEADER_SIZE to DAMAGED_SPARE, and RECORD. DONE, WAKE and DROPPED use up one sequence number.
  * WAKE is answered if the byte at LAMIPEONGA_NEED_WAKE_AT isn't 0. The flag is the consumer's: no call writes it.
  */
 uint32_t lamipeonga_emit(uint8_t *ring, size_t ring_bytes, uint8_t *record, size_t record_bytes, uint64_t timestamp, uint32_t event_type,
@@ -121,7 +135,8 @@ uint32_t lamipeonga_emit(uint8_t *ring, size_t ring_bytes, uint8_t *record, size
 
 /*
  * Looks at every event in the ring, from the oldest to the newest. Writes nothing.
- * Answers DONE if all are well formed and their sequences rise from above 0, else one of SHORT to POSITION, or DAMAGED.
+ * Answers DONE if all are well formed and their sequences rise from above 0, else one of SHORT to POSITION, or of
+ * DAMAGED_LEFT to DAMAGED_SEQUENCE.
  */
 uint32_t lamipeonga_inspect(const uint8_t *ring, size_t ring_bytes);
 

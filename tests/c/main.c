@@ -15,7 +15,7 @@ int main(void)
 
     printf("C calls: %u sums, %u refusal numbers, %lu random calls compared, %lu differences\n", sums, refusals, random_calls, differences);
     printf("random answers:");
-    for (unsigned number = 0; number < 32; number++)
+    for (unsigned number = 0; number < ANSWERS; number++)
         if (answered[number] != 0)
             printf(" %u: %lu", number, answered[number]);
     printf("\n");

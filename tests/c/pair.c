@@ -14,7 +14,7 @@ size_t ring_bytes;
 size_t record_bytes;
 unsigned long calls;
 unsigned long differences;
-unsigned long answered[32];
+unsigned long answered[ANSWERS];
 
 /* guard, shift, buffer, guard; `span` bytes of it are in use */
 static _Alignas(64) uint8_t ring_room[2][GUARD_BYTES + ROOM_BYTES + GUARD_BYTES];
@@ -95,6 +95,11 @@ void put_back(void)
     }
 }
 
+int is_refusal(uint32_t answer)
+{
+    return (answer >= 1 && answer <= 17) || (answer >= 101 && answer <= 107);
+}
+
 static void begin(void)
 {
     calls += 1;
@@ -118,11 +123,11 @@ static uint32_t compared(uint32_t first, uint32_t second)
     expect(memcmp(ring_room[ARCHIVE], ring_room[SECOND], span) == 0, "the rings differ");
     expect(memcmp(record_room[ARCHIVE], record_room[SECOND], sizeof before_record) == 0, "the records differ");
     expect_guards();
-    if (first >= 1 && first <= 17) {
+    if (is_refusal(first)) {
         expect(memcmp(ring_room[ARCHIVE], before_ring, span) == 0, "a refusal changed the ring");
         expect(memcmp(record_room[ARCHIVE], before_record, sizeof before_record) == 0, "a refusal changed the record");
     }
-    if (first < 32)
+    if (first < ANSWERS)
         answered[first] += 1;
     return first;
 }

@@ -14,6 +14,9 @@ enum { ARCHIVE, SECOND };
 #define ROOM_BYTES (8192 + 1048576 + 64)
 #define RECORD_ROOM 64
 
+/* above every number that a call answers */
+#define ANSWERS 128
+
 /* the buffers lent to the next call; the pointers move with the alignment tried */
 extern uint8_t *ring[2];
 extern uint8_t *record[2];
@@ -23,7 +26,7 @@ extern size_t record_bytes;
 /* calls compared, differences found, and how often each number was answered */
 extern unsigned long calls;
 extern unsigned long differences;
-extern unsigned long answered[32];
+extern unsigned long answered[ANSWERS];
 
 /* Lends rings of a length from here on, `shift` bytes off a multiple of 64, and a record of 24 zero bytes. */
 void lend(size_t bytes, unsigned shift);
@@ -33,6 +36,9 @@ void set_ring(size_t at, int width, uint64_t value);
 void set_record(size_t at, uint64_t value);
 
 uint64_t number_at(const uint8_t *bytes, int width);
+
+/* Whether a number is a refusal: 1 to 17, or 101 to 107, which stand in place of 10. */
+int is_refusal(uint32_t answer);
 
 /* All of both pairs kept, and put back. */
 void keep(void);

@@ -9,8 +9,13 @@
 static const uint64_t FARTHEST = (uint64_t)1 << 62;
 static const uint64_t GREATEST = (uint64_t)-1;
 
+/* so often at least each reason of a bad event has to be met by each call that can give it */
+#define FLOOR 50
+
 static uint64_t seed = 0x4B4D455352494E47;
 static uint8_t pool[1 << 20];
+static unsigned long emitted[ANSWERS];
+static unsigned long inspected[ANSWERS];
 
 static uint64_t next(void)
 {
@@ -76,6 +81,56 @@ static void disturb_data(uint64_t capacity)
     set_ring(8192 + offset, 1, below(3) ? below(256) : below(2) * 32);
 }
 
+static uint64_t get_data(uint64_t capacity, uint64_t position, int width)
+{
+    uint8_t bytes[8];
+    for (int i = 0; i < width; i++)
+        bytes[i] = ring[ARCHIVE][8192 + (position + (uint64_t)i) % capacity];
+    return number_at(bytes, width);
+}
+
+static void set_data(uint64_t capacity, uint64_t position, int width, uint64_t value)
+{
+    for (int i = 0; i < width; i++)
+        set_ring(8192 + (position + (uint64_t)i) % capacity, 1, value >> (8 * i));
+}
+
+/* the start of one of the first three events, as far as the sizes lead on */
+static uint64_t some_event(uint64_t capacity)
+{
+    uint64_t position = tail_pos();
+    for (uint64_t left = below(3); left > 0; left--) {
+        uint64_t size = get_data(capacity, position, 4);
+        if (size >= 32 && size < write_pos() - position)
+            position += size;
+    }
+    return position;
+}
+
+/* a field of a header, near the edge of its reason or anywhere */
+static void disturb_field(uint64_t capacity, uint64_t position)
+{
+    uint64_t room = write_pos() - position;
+    switch (below(6)) {
+    case 0: set_data(capacity, position + 4, 2, below(2) ? 31 + below(3) : 32 + 256 * below(3)); break;
+    case 1: set_data(capacity, position, 4, below(2) ? 31 + below(3) : below(32)); break;
+    case 2: set_data(capacity, position, 4, below(2) ? room + below(3) - 1 : next()); break;
+    case 3: set_data(capacity, position + 6, 2, below(4) + 256 * below(2)); break;
+    case 4: set_data(capacity, position + 29 + below(3), 1, below(2) ? 1 : next()); break;
+    default: set_data(capacity, position + 8, 8, below(2) ? below(3) : get_data(capacity, position + 8, 8) - below(3)); break;
+    }
+}
+
+/* some fields of one header, so that often several reasons hold; or write_pos set within it or behind it */
+static void disturb_header(uint64_t capacity)
+{
+    uint64_t position = some_event(capacity);
+    for (uint64_t left = 1 + below(3); left > 0; left--)
+        disturb_field(capacity, position);
+    if (below(4) == 0)
+        set_ring(64, 8, position + 1 + below(34));
+}
+
 static void disturb_record(void)
 {
     uint64_t last = number_at(record[ARCHIVE], 8);
@@ -106,11 +161,12 @@ static void disturb_lengths(size_t lent)
 static void disturb(size_t lent)
 {
     uint64_t capacity = kept_capacity(lent);
-    switch (below(5)) {
+    switch (below(6)) {
     case 0: disturb_page(capacity); break;
-    case 1:
-    case 2: disturb_data(capacity); break;
-    case 3: disturb_record(); break;
+    case 1: disturb_data(capacity); break;
+    case 2:
+    case 3: disturb_header(capacity); break;
+    case 4: disturb_record(); break;
     default: disturb_lengths(lent); break;
     }
 }
@@ -127,17 +183,23 @@ static size_t payload_bytes(uint64_t capacity)
     }
 }
 
+static void count(unsigned long *counts, uint32_t answer)
+{
+    if (answer < ANSWERS)
+        counts[answer] += 1;
+}
+
 static void call(uint64_t capacity)
 {
     if (below(4) == 0)
         set_ring(4096, 1, below(2) ? below(2) : next());
     if (below(8) == 0) {
-        inspect();
+        count(inspected, inspect());
     } else if (below(60) == 0) {
         create((uint16_t)next());
     } else {
         size_t bytes = payload_bytes(capacity);
-        emit(next(), (uint32_t)next(), (uint8_t)next(), pool + below(sizeof pool - bytes), bytes);
+        count(emitted, emit(next(), (uint32_t)next(), (uint8_t)next(), pool + below(sizeof pool - bytes), bytes));
     }
 }
 
@@ -188,6 +250,16 @@ static void history(void)
     }
 }
 
+/* an emission looks at no sequence, and at no event with less than half the capacity behind its start */
+static void expect_reasons(void)
+{
+    for (unsigned number = LAMIPEONGA_DAMAGED_LEFT; number <= LAMIPEONGA_DAMAGED_SEQUENCE; number++) {
+        int by_emission = number != LAMIPEONGA_DAMAGED_LEFT && number != LAMIPEONGA_DAMAGED_SEQUENCE;
+        expect(inspected[number] >= FLOOR, "a reason that few random inspections met");
+        expect(by_emission ? emitted[number] >= FLOOR : emitted[number] == 0, "a reason that few random emissions met, or can't be");
+    }
+}
+
 unsigned long run_random(unsigned long wanted)
 {
     unsigned long start = calls;
@@ -197,9 +269,11 @@ unsigned long run_random(unsigned long wanted)
         pool[i] = (uint8_t)(below(4) ? (i % 32 == 0 || i % 32 == 4) * 32 : next());
     while (calls - start < wanted)
         history();
-    for (unsigned number = 0; number < 32; number++) {
-        int can = number <= 11 || number == 16 || number == 17 || number == 20 || number == 21;
+    for (unsigned number = 0; number < ANSWERS; number++) {
+        int can = number <= 9 || number == 11 || number == 16 || number == 17 || number == 20 || number == 21
+            || (number >= LAMIPEONGA_DAMAGED_LEFT && number <= LAMIPEONGA_DAMAGED_SEQUENCE);
         expect((answered[number] != 0) == can, "an answer that no random call met, or that can't be");
     }
+    expect_reasons();
     return calls - start;
 }

@@ -1,5 +1,5 @@
 /*
- * Each refusal number that the three calls can give, once at least: 1 to 11, 16 and 17.
+ * Each refusal number that the three calls can give, once at least: 1 to 9, 11, 16, 17, and 101 to 107, which stand in place of 10.
  * 12 can't occur: an event that isn't dropped takes at most half the capacity, and with the tail at write_pos the whole capacity is free.
  * 13, 14 and 15 belong to reading, following and the swap, which C doesn't call.
  */
@@ -16,13 +16,20 @@ static const uint64_t GREATEST = (uint64_t)-1;
 
 static uint8_t payload[256];
 
-/* a ring of capacity 256 with the events 1 to 4, 64 bytes each: full */
-static void full(void)
+/* a ring of capacity 256 with the events 1 to 4, 64 bytes each, from a position on: full */
+static void full_from(uint64_t position)
 {
     lend(LAMIPEONGA_RING_BYTES(256), 0);
     expect_number("a fresh ring", LAMIPEONGA_DONE, create(3));
+    set_ring(64, 8, position);
+    set_ring(72, 8, position);
     for (int i = 0; i < 4; i++)
         expect_number("filling", LAMIPEONGA_DONE, emit(0, 0, 0, payload, 32));
+}
+
+static void full(void)
+{
+    full_from(0);
 }
 
 static uint32_t emit_small(void)
@@ -103,34 +110,165 @@ static void positions(void)
     expect_number("just near enough", LAMIPEONGA_DONE, emit_small());
 }
 
-/* one number of the oldest event's header changed: both calls refuse it */
-static void event_refused(size_t at, int width, uint64_t value)
+/* a number by its position in the data, over whose end it may go */
+static void set_data(uint64_t position, int width, uint64_t value)
+{
+    for (int i = 0; i < width; i++)
+        set_ring(8192 + (position + (uint64_t)i) % 256, 1, value >> (8 * i));
+}
+
+/* one number of the oldest event's header changed: both calls refuse it so */
+static void event_refused(uint32_t wanted, size_t at, int width, uint64_t value)
 {
     full();
-    set_ring(8192 + at, width, value);
-    expect_number("emission over a damaged event", LAMIPEONGA_DAMAGED, emit_small());
-    expect_number("inspection of a damaged event", LAMIPEONGA_DAMAGED, inspect());
+    set_data(at, width, value);
+    expect_number("emission over a damaged event", wanted, emit_small());
+    expect_number("inspection of a damaged event", wanted, inspect());
+}
+
+/* values at the edges, and each byte of a field alone */
+static void fields(void)
+{
+    static const uint64_t header_sizes[] = {0, 31, 33, 32 + 256, 65535};
+    for (size_t i = 0; i < sizeof header_sizes / sizeof header_sizes[0]; i++)
+        event_refused(LAMIPEONGA_DAMAGED_HEADER_SIZE, 4, 2, header_sizes[i]);
+    event_refused(LAMIPEONGA_DAMAGED_EVENT_SIZE, 0, 4, 0);
+    event_refused(LAMIPEONGA_DAMAGED_EVENT_SIZE, 0, 4, 31);
+    event_refused(LAMIPEONGA_DAMAGED_WRITE_POS, 0, 4, 257);
+    event_refused(LAMIPEONGA_DAMAGED_WRITE_POS, 0, 4, 65536 + 64);
+    event_refused(LAMIPEONGA_DAMAGED_WRITE_POS, 0, 4, 4294967295);
+    event_refused(LAMIPEONGA_DAMAGED_CPU_ID, 6, 1, 4);
+    event_refused(LAMIPEONGA_DAMAGED_CPU_ID, 7, 1, 1);
+    for (size_t at = 29; at < 32; at++) {
+        event_refused(LAMIPEONGA_DAMAGED_SPARE, at, 1, 1);
+        event_refused(LAMIPEONGA_DAMAGED_SPARE, at, 1, 128);
+    }
+    full();
+    set_data(0, 4, 256);
+    expect_number("an event as large as all that is left", LAMIPEONGA_DONE, inspect());
+    full();
+    set_data(0, 4, 32);
+    expect_number("the least event, and payload behind it", LAMIPEONGA_DAMAGED_HEADER_SIZE, inspect());
+}
+
+/* a change of a header for each reason but 101, in their order */
+static const struct {
+    uint32_t answer;
+    size_t at;
+    int width;
+    uint64_t value;
+} faults[] = {
+    {LAMIPEONGA_DAMAGED_HEADER_SIZE, 4, 2, 33},
+    {LAMIPEONGA_DAMAGED_EVENT_SIZE, 0, 4, 31},
+    {LAMIPEONGA_DAMAGED_WRITE_POS, 0, 4, 257},
+    {LAMIPEONGA_DAMAGED_CPU_ID, 6, 2, 4},
+    {LAMIPEONGA_DAMAGED_SPARE, 30, 1, 1},
+    {LAMIPEONGA_DAMAGED_SEQUENCE, 8, 8, 0},
+};
+
+enum { FAULTS = sizeof faults / sizeof faults[0], BOTH_SIZES = 6 };
+
+/* puts those that a number has a bit for, and answers the first */
+static uint32_t put_faults(uint64_t position, unsigned chosen)
+{
+    uint32_t first = LAMIPEONGA_DONE;
+    for (unsigned i = FAULTS; i-- > 0;)
+        if (chosen >> i & 1) {
+            set_data(position + faults[i].at, faults[i].width, faults[i].value);
+            first = faults[i].answer;
+        }
+    return first;
+}
+
+/* some of the faults in the oldest event: the first counts. An emission doesn't look at the sequence, and goes on. */
+static void chosen_refused(uint64_t position, unsigned chosen)
+{
+    full_from(position);
+    uint32_t first = put_faults(position, chosen);
+    expect_number("inspection of an event with some faults", first, inspect());
+    if (first == LAMIPEONGA_DAMAGED_SEQUENCE)
+        first = LAMIPEONGA_DONE;
+    expect_number("emission over an event with some faults", first, emit_small());
+}
+
+/* every choice but those with both sizes, which can't be; also with the header over the data's end, after each of its bytes */
+static void several(void)
+{
+    for (unsigned chosen = 1; chosen < 1u << FAULTS; chosen++)
+        for (uint64_t before_end = 0; before_end < 32; before_end++)
+            if ((chosen & BOTH_SIZES) != BOTH_SIZES)
+                chosen_refused(512 - before_end, chosen);
+}
+
+/* in the second, third and fourth event; an emission of half the capacity comes to the second too */
+static void later_events(void)
+{
+    for (uint64_t position = 64; position < 256; position += 64)
+        for (unsigned i = 0; i < FAULTS; i++) {
+            full();
+            uint32_t wanted = put_faults(position, 1u << i);
+            expect_number("inspection of a later event", wanted, inspect());
+            if (position > 64 || wanted == LAMIPEONGA_DAMAGED_SEQUENCE)
+                wanted = LAMIPEONGA_DONE;
+            expect_number("emission over two events", wanted, emit(1, 2, 3, payload, 96));
+        }
+}
+
+/* with fewer than 32 bytes left nothing else counts; with 32 and more the event of 64 bytes runs past write_pos */
+static void bytes_left(void)
+{
+    for (unsigned chosen = 0; chosen < 1u << FAULTS; chosen++)
+        for (uint64_t left = 1; left < 32; left++) {
+            full();
+            put_faults(192, chosen);
+            set_ring(64, 8, 192 + left);
+            expect_number("fewer than 32 bytes left", LAMIPEONGA_DAMAGED_LEFT, inspect());
+        }
+    for (uint64_t left = 32; left < 64; left++) {
+        full();
+        set_ring(64, 8, 192 + left);
+        expect_number("fewer bytes left than the event's", LAMIPEONGA_DAMAGED_WRITE_POS, inspect());
+    }
+    full();
+    set_ring(72, 8, 225);
+    expect_number("31 bytes left at the tail", LAMIPEONGA_DAMAGED_LEFT, inspect());
+    expect_number("an emission doesn't come to them", LAMIPEONGA_DONE, emit_small());
+}
+
+/* the second event's sequence, with the first one's */
+static void sequence_refused(uint64_t before, uint64_t sequence)
+{
+    full();
+    set_data(8, 8, before);
+    set_data(64 + 8, 8, sequence);
+    expect_number("a sequence that doesn't rise", LAMIPEONGA_DAMAGED_SEQUENCE, inspect());
+    expect_number("an emission doesn't look at it", LAMIPEONGA_DONE, emit(1, 2, 3, payload, 96));
+}
+
+static void sequences(void)
+{
+    sequence_refused(1, 1);
+    sequence_refused(2, 1);
+    sequence_refused(2, 0);
+    sequence_refused(256, 255);
+    sequence_refused(GREATEST, GREATEST);
+    sequence_refused(GREATEST, GREATEST - 1);
+    sequence_refused(GREATEST, 0);
+    full();
+    set_data(8, 8, 0);
+    expect_number("the first sequence is 0", LAMIPEONGA_DAMAGED_SEQUENCE, inspect());
+    full();
+    set_data(192 + 8, 8, GREATEST);
+    expect_number("the highest sequence", LAMIPEONGA_DONE, inspect());
 }
 
 static void events(void)
 {
-    event_refused(0, 4, 31);
-    event_refused(0, 4, 257);
-    event_refused(4, 2, 33);
-    event_refused(6, 2, 4);
-    event_refused(29, 1, 1);
-    event_refused(30, 1, 1);
-    event_refused(31, 1, 1);
-    full();
-    set_ring(72, 8, 225);
-    expect_number("31 bytes left", LAMIPEONGA_DAMAGED, inspect());
-    full();
-    set_ring(8192 + 8, 8, 0);
-    expect_number("the first sequence is 0", LAMIPEONGA_DAMAGED, inspect());
-    expect_number("an emission doesn't look at it", LAMIPEONGA_DONE, emit_small());
-    full();
-    set_ring(8192 + 64 + 8, 8, 1);
-    expect_number("a sequence that doesn't rise", LAMIPEONGA_DAMAGED, inspect());
+    fields();
+    several();
+    later_events();
+    bytes_left();
+    sequences();
 }
 
 static void sizes(void)
@@ -170,8 +308,10 @@ unsigned run_refusals(void)
     events();
     sizes();
     record_lengths();
-    for (unsigned number = 1; number <= 17; number++) {
-        int can = number <= 11 || number >= 16;
+    for (unsigned number = 1; number < ANSWERS; number++) {
+        int can = number <= 9 || number == 11 || number >= 16;
+        if (!is_refusal(number))
+            continue;
         expect((answered[number] != 0) == can, "a refusal number that wasn't met, or can't be");
         met += answered[number] != 0;
     }

@@ -1,4 +1,5 @@
-/* A second implementation of create, emit and inspect. The archive is compared with it; second.c says what it was written from. */
+/* A second implementation of create, emit and inspect. The archive is compared with it; second.c says what it was written from.
+   For a bad event emit and inspect answer 100 + the first reason that holds, 101 to 107, and never 10. */
 #ifndef SECOND_H
 #define SECOND_H
 

@@ -94,7 +94,7 @@ try 'the whole path' 0 "$start" '' 'cd / && "$copy/ring" listing "$copy/examples
 try 'a link' 0 "$start" '' 'ln -s "$copy/ring" "$work/link" && "$work/link" listing examples/start.ring'
 try 'a recording' 0 '' '' './ring record <examples/start.ring >made.spl && cmp made.spl start.spl'
 try 'a recording of a file by name' 0 '' '' './ring record examples/start.ring | cmp - start.spl'
-try 'a refused recording' 1 '' 'refused 10 at 416' './ring record <examples/damaged.ring'
+try 'a refused recording' 1 '' 'refused 10 at 416 why 2' './ring record <examples/damaged.ring'
 try 'no byte to record' 1 '' 'refused 1' './ring record </dev/null'
 try 'a ring too long to record' 1 '' 'too long' 'head -c 1056769 /dev/zero | ./ring record'
 try 'much too long' 1 '' 'too long' 'head -c 4000000 /dev/zero | ./ring record'

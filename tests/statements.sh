@@ -27,7 +27,7 @@ done < <(grep -oE '`[a-z_]+/specs/[A-Za-z0-9]+\.antt` \([0-9]+\)' "$page" | sed 
 for path in crates/*/specs/*.antt; do
     file=${path#crates/}
     case $file in
-    bench_calls/* | bench_serial/* | replay_serial/* | script/* | text/*) continue ;;
+    bench_calls/* | bench_serial/* | bench_slips/* | replay_serial/* | replay_slips/* | script/* | text/*) continue ;;
     */Lib.antt) total=$((total + $(lines "$path"))); continue ;;
     esac
     [[ $listed == *" $file "* ]] || fail "$file is not in the reading order"

@@ -19,21 +19,23 @@ ghost use Rattle.bench_calls.specs.Calls.{answerNumber, readAnswer, same
 pub mod reader_bytes;
 
 pub enum BenchAnswer {
-    Event,
+    Done,
     Empty,
     Moved,
+    Again,
     RecordLength,
     Refused(Refusal),
 }
 
-fn answer_number(answer: BenchAnswer) -> u32
+pub fn answer_number(answer: BenchAnswer) -> u32
     ensures { λ r. ⌜ r ≡ answerNumber answer ⌝ }
 {
     match answer {
-        BenchAnswer::Event => 0,
+        BenchAnswer::Done => 0,
         BenchAnswer::RecordLength => 1000,
         BenchAnswer::Empty => 1001,
         BenchAnswer::Moved => 1002,
+        BenchAnswer::Again => 1003,
         BenchAnswer::Refused(refusal) => refusal_number(refusal),
     }
 }
@@ -42,7 +44,7 @@ fn read_answer(reading: Reading) -> BenchAnswer
     ensures { λ r. ⌜ r ≡ readAnswer reading ⌝ }
 {
     match reading {
-        Reading::Event(_) => BenchAnswer::Event,
+        Reading::Event(_) => BenchAnswer::Done,
         Reading::Empty => BenchAnswer::Empty,
         Reading::Moved => BenchAnswer::Moved,
         Reading::Refused(refusal) => BenchAnswer::Refused(refusal),

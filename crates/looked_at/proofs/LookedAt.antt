@@ -17,7 +17,8 @@ use Rattle.emit_rules.specs.declared.Emitted.{Emitted}
 use Rattle.console_rules.specs.Console.{emittedNumber, recordOf, recordAfter, Called, refusedCall, recordRows, emitCall}
 use Rattle.looked_at.specs.LookedAt.{Agree, AgreeStill, MadeAlike, LookedAt}
 use Rattle.looked_at.proofs.Writes.{unwritten}
-use Rattle.looked_at.proofs.Looks.{inspected-same, attached-same, read-same, followed-same, recorded-same}
+use Rattle.looked_at.proofs.Looks.{inspected-same, attached-same, read-same, copied-same, followed-same, recorded-same}
+use Rattle.looked_at.proofs.Confirm.{confirmed-same}
 use Rattle.looked_at.proofs.Emission.{emission-agree}
 use Rattle.looked_at.proofs.Swap.{exchange-agree}
 
@@ -59,6 +60,8 @@ looked-at s t =
       inspect = λ g. inspected-same g;
       attach = λ g reader. attached-same g reader;
       read = λ g reader out. read-same g reader out;
+      copy = λ g reader out. copied-same g reader out;
+      confirm = λ g reader slip. confirmed-same g reader slip;
       follow = λ g reader. followed-same g reader;
       swap = λ g new new′ long w. exchange-agree g new new′ long w;
       recording = λ g placed out. recorded-same g placed out;

@@ -13,8 +13,9 @@ use Rattle.look_rules.proofs.Laws as looks
 use Rattle.event_rules.specs.Run.{soundRun}
 use Rattle.inspect_rules.specs.Inspect.{walked, surveyed, damaged, damageFound, inspectedOn, inspected}
 use Rattle.reader_rules.specs.Attach.{attached}
-use Rattle.reader_rules.specs.Read.{readAt, readOpened, readOut}
+use Rattle.reader_rules.specs.Read.{nextAt, nextOpened, readOut}
 use Rattle.reader_rules.specs.declared.Reader.{Reader}
+use Rattle.slip_rules.specs.Copy.{copyOut}
 use Rattle.follow_rules.specs.Follow.{onward, followRows, followedOn, followed}
 use Rattle.recording_rules.specs.Recording.{recordingOf, beyondEnd, recordingRows, recordedOn, recorded}
 use Rattle.looked_at.specs.LookedAt.{Agree}
@@ -56,8 +57,12 @@ module _ {s t : List ℕ} (g : Agree s t) where
   attached-same reader = rw (rows-same, page-same)
 
   pub read-same : (reader : Reader) (out : List ℕ) → readOut t reader out ≡ readOut s reader out
-  unfolding onRing readOut readOpened readAt
+  unfolding onRing readOut nextOpened nextAt
   read-same reader out = rw (rows-same, page-same, looks.rest-same s t data-same (pageOf s))
+
+  pub copied-same : (reader : Reader) (out : List ℕ) → copyOut t reader out ≡ copyOut s reader out
+  unfolding onRing copyOut nextOpened nextAt
+  copied-same reader out = rw (rows-same, page-same, looks.rest-same s t data-same (pageOf s))
 
   pub followed-same : (reader : Reader) → followed t reader ≡ followed s reader
   unfolding onRing followed followedOn followRows onward damaged

@@ -43,13 +43,21 @@ use Rattle.emit_rules.specs.declared.Label.{Label}
 use Rattle.emit_rules.specs.declared.Outcome.the-variants as emits
 use Rattle.emit_rules.proofs.Cases as emitCases
 use Rattle.reader_rules.specs.Reader.{wrongReader}
-use Rattle.reader_rules.specs.Read.{AfterRead, untouched, readingPlace, ending, nothing, eventRows, handedOut, readAt, readOpened, readOut}
+use Rattle.reader_rules.specs.Read.{AfterRead, untouched, readingPlace, ending, nothing, eventRows, handedOut, nextAt, nextOpened, readOut}
+use Rattle.reader_rules.specs.declared.Reading.{Reading}
 use Rattle.reader_rules.specs.declared.Reading.the-variants as reads
 use Rattle.reader_rules.proofs.Cases as readCases
 use Rattle.reader_rules.specs.Attach.{notAttached}
 use Rattle.reader_rules.specs.declared.Reader.{Reader}
 use Rattle.reader_rules.specs.declared.Attached.{Attached}
 use Rattle.reader_rules.specs.declared.Attachment.the-variants as attaches
+use Rattle.slip_rules.specs.Copy.{AfterCopy, copyOut}
+use Rattle.slip_rules.specs.Confirm.{confirmOpened}
+use Rattle.slip_rules.specs.AtOnce.{settled, settledAfter}
+use Rattle.slip_rules.specs.declared.Copying.{Copying}
+use Rattle.slip_rules.specs.declared.Copying.the-variants as copies
+use Rattle.slip_rules.proofs.Cases.{copy-on-sound}
+use Rattle.slip_rules.proofs.AtOnce.{pair-opened}
 use Rattle.follow_rules.specs.Follow.{followRows, followedOn, followed}
 use Rattle.follow_rules.proofs.Cases as followCases
 use Rattle.recording_rules.specs.Recording.{AfterRecord, notRecorded, recordingRows, recordedOn, recorded}
@@ -312,7 +320,7 @@ module _ (s : List ℕ) (p : Page) (is : opened s ≡ opens.Page p) (d : Damage)
   reads-there : (reader : Reader) (out : List ℕ) → readOut s reader out .answered .answer ≡ reads.Refused (refusal.Damaged d)
       → (at ≡ readingPlace p reader) × (passable (p .«cpu_id») (reader .last) (rest s p at) ≡ false)
       × (d .reason ≡ reasonAfter (p .«cpu_id») (reader .last) (rest s p at))
-  unfolding readOpened readAt eventRows ending first
+  unfolding nextOpened nextAt eventRows ending first
   reads-there reader out e =
       by (wrongReader p reader) (eqb (reader .«read_pos») (p .«write_pos»)) (eqb place (p .«write_pos»)) (eqb (p .generation) (reader .generation))
       (passable (p .«cpu_id») (reader .last) bs) (ltb (length out) (eventSize bs)) refl
@@ -346,6 +354,35 @@ module _ (s : List ℕ) (p : Page) (is : opened s ≡ opens.Page p) (d : Damage)
             ap (λ (x : Damage). x .reason) found ∙ ap (λ (n : ℕ). reasonAfter (p .«cpu_id») (reader .last) (rest s p n)) (sym there),
           )
 
+  -- ---- copying: reading's answer is what copying's is as one of reading
+
+  module _ (reader : Reader) (out : List ℕ) where
+    abbrev Copies : Type 0
+    Copies = copyOut s reader out .copied .answer ≡ copies.Refused (refusal.Damaged d)
+
+    abbrev Reads : Type 0
+    Reads = readOut s reader out .answered .answer ≡ reads.Refused (refusal.Damaged d)
+
+    abbrev as-read : Copying → Reading
+    as-read a = settled (confirmOpened p) a (copyOut s reader out .copied .reader) .answer
+
+    answers-alike : readOut s reader out .answered .answer ≡ as-read (copyOut s reader out .copied .answer)
+    answers-alike =
+        ap (λ (a : AfterRead). a .answered .answer) (readCases.on-sound s reader out p h ∙ sym (pair-opened s p reader out (h .order)))
+        ∙ ap (λ (a : AfterCopy). settledAfter (confirmOpened p) a .answered .answer) (sym (copy-on-sound s reader out p h))
+
+    copies-there : Copies → Reads
+    copies-there e = answers-alike ∙ ap as-read e
+
+    copies-too : Reads → Copies
+    copies-too e = by (copyOut s reader out .copied .answer) (sym answers-alike ∙ e)
+      where
+        by : (a : Copying) → as-read a ≡ reads.Refused (refusal.Damaged d) → a ≡ copies.Refused (refusal.Damaged d)
+        by (copies.Event slip) q = differ (cc)
+        by copies.Empty q = differ (cc)
+        by copies.Moved q = differ (cc)
+        by (copies.Refused r) q = cc
+
 pub places : Places
 places s p is d = record {
   inspect = (stopping s p is d, stopped-there s p is d);
@@ -357,4 +394,5 @@ places s p is d = record {
     λ r. emits-there s p is d w label payload (r .0, r .1, r .2, r .3, omega (arith, r .4), r .5, r .6),
   );
   read = λ reader out e. let r = reads-there s p is d reader out e in (omega (arith, r .0), r .1, r .2);
+  copy = λ reader out. (copies-there s p is d reader out, copies-too s p is d reader out);
 }

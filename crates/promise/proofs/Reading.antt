@@ -19,14 +19,16 @@ use Rattle.look_rules.proofs.Laws.{rest-length, rest-drop, rest-take}
 use Rattle.writer_rules.specs.declared.Writer.{Writer}
 use Rattle.reader_rules.specs.Reader.{readerWith, movedTo, handedOne}
 use Rattle.reader_rules.specs.Attach.{attached}
-use Rattle.reader_rules.specs.Read.{readingPlace, handedOut, readOut}
+use Rattle.reader_rules.specs.Read.{readingPlace, Leaves, nextOpened, readOut}
+use Rattle.reader_rules.specs.Read.{reading as reads}
 use Rattle.reader_rules.specs.declared.Reader.{Reader}
 use Rattle.reader_rules.specs.declared.Attachment.the-variants as attachment
 use Rattle.reader_rules.specs.declared.Reading.the-variants as reading
 use Rattle.reader_rules.proofs.Facts.{Right}
 use Rattle.reader_rules.proofs.Attaching.{attach-done}
 use Rattle.reader_rules.proofs.Life.{says-with, attached-says}
-use Rattle.reader_rules.proofs.Cases.{read-empty, read-event}
+use Rattle.reader_rules.proofs.Steps.{opened-event}
+use Rattle.reader_rules.proofs.Cases.{on-sound, read-empty}
 use Rattle.run_rules.specs.Runs.{total}
 use Rattle.history.specs.Ring.{Numbered, Ring, bytes, write}
 use Rattle.history.proofs.IdealReading.{Place, attachAt}
@@ -37,32 +39,46 @@ use Rattle.promise.proofs.Opened.{sound-of}
 use Rattle.promise.proofs.Encoding.{map-append, encode-length, encode-sequence, joined-length}
 use Rattle.promise.proofs.Holds.{holds-range, holds-whole}
 
--- an event stands at the reader's place, and other bytes behind it
-pub reads-front : (s : List ℕ) (p : Page) → Sound s p → (reader : Reader) → Right p reader → (event more : List ℕ) → One (p .«cpu_id») event
-    → rest s p (readingPlace p reader) ≡ event ++ more → reader .last < sequence event → (out : List ℕ) → length event ≤ length out
-    → readOut s reader out ≡ record {
-      answered = record {
-        answer = reading.Event (length event);
-        reader = handedOne (readingPlace p reader + length event) (sequence event) reader;
-      };
-      out = event ++ drop (length event) out;
-    }
-reads-front s p sound reader right event more one there above out room =
-    let at : ℕ = readingPlace p reader in
-    let size : eventSize (event ++ more) ≡ length event = size-front (p .«cpu_id») event one more in
-    let number : sequence (event ++ more) ≡ sequence event = sequence-front (p .«cpu_id») event one more in
-    let bytes : take (eventSize (event ++ more)) (event ++ more) ≡ event = take-front (p .«cpu_id») event one more in
-    let below : at < p .«write_pos» =
-    omega (arith, rest-length s p at, ap length there, length-append event more, one-long (p .«cpu_id») event one more) in
-    read-event s reader out p sound right below
-    (ap (wellFormed (p .«cpu_id»)) there ∙ well-front (p .«cpu_id») event one more)
-    (omega (arith, above, ap sequence there, number))
-    (omega (arith, room, ap eventSize there, size))
-    ∙ ap (handedOut reader out at) there
-    ∙ (λ i. record {
-      answered = record { answer = reading.Event (size i); reader = handedOne (at + size i) (number i) reader };
-      out = bytes i ++ drop (size i) out;
-    })
+-- an event stands at the reader's place, and other bytes behind it: of reading and of copying alike
+module _ (s : List ℕ) (p : Page) (sound : Sound s p) (reader : Reader) (right : Right p reader) (event more : List ℕ) (one : One (p .«cpu_id») event)
+    (there : rest s p (readingPlace p reader) ≡ event ++ more) (above : reader .last < sequence event) (out : List ℕ) (room : length event ≤ length out) where
+  abbrev place : ℕ
+  place = readingPlace p reader
+
+  -- what the bytes there say
+  pub says-size : eventSize (event ++ more) ≡ length event
+  says-size = size-front (p .«cpu_id») event one more
+
+  pub says-number : sequence (event ++ more) ≡ sequence event
+  says-number = sequence-front (p .«cpu_id») event one more
+
+  pub says-bytes : take (eventSize (event ++ more)) (event ++ more) ≡ event
+  says-bytes = take-front (p .«cpu_id») event one more
+
+  pub next-front : {A : Type 0} (leaves : Leaves A) → nextOpened leaves s p reader out ≡ leaves .event (readingPlace p reader) (event ++ more)
+  next-front leaves =
+      let below : place < p .«write_pos» =
+      omega (arith, rest-length s p place, ap length there, length-append event more, one-long (p .«cpu_id») event one more) in
+      opened-event leaves s p reader out (sound .order) right below
+      (ap (wellFormed (p .«cpu_id»)) there ∙ well-front (p .«cpu_id») event one more)
+      (omega (arith, above, ap sequence there, says-number))
+      (omega (arith, room, ap eventSize there, says-size))
+      ∙ ap (leaves .event place) there
+
+  pub reads-front : readOut s reader out ≡ record {
+    answered = record {
+      answer = reading.Event (length event);
+      reader = handedOne (readingPlace p reader + length event) (sequence event) reader;
+    };
+    out = event ++ drop (length event) out;
+  }
+  reads-front =
+      on-sound s reader out p sound
+      ∙ next-front (reads p reader out)
+      ∙ (λ i. record {
+        answered = record { answer = reading.Event (says-size i); reader = handedOne (place + says-size i) (says-number i) reader };
+        out = says-bytes i ++ drop (says-size i) out;
+      })
 
 -- the record of a reader of the ring without bytes, with a generation
 abbrev pub recordOf : ℕ → Place → Reader
@@ -116,7 +132,7 @@ module _ (cpu capacity : ℕ) (s : List ℕ) (w : Writer) (ring : Ring Event) (h
         ∙ ap (take (size (x .event))) rest-is
         ∙ take-at (encode cpu x) (joined (map (encode cpu) more)) (size (x .event)) (encode-length cpu x)
 
-    whole : One cpu (encode cpu x)
+    pub whole : One cpu (encode cpu x)
     whole =
         let each : Each cpu (map (encode cpu) front ++ map (encode cpu) (x ∷ more)) =
         subst (Each cpu) (ap (map (encode cpu)) cut ∙ map-append (encode cpu) front (x ∷ more)) (holds-whole cpu capacity s w ring h .0 .0) in

@@ -12,6 +12,7 @@ use Rattle.emit_rules.specs.{Emit.emission, declared.Label.Label, declared.Outc
 use Rattle.inspect_rules.specs.{Inspect.inspected, declared.Inspected.the-variants.Refused as inspectsRefused}
 use Rattle.reader_rules.specs.{Read.readingPlace, Read.readOut, declared.Reader.Reader}
 use Rattle.reader_rules.specs.declared.{Reading.the-variants.Refused as readsRefused, Attachment.the-variants.Refused as attachesRefused}
+use Rattle.slip_rules.specs.{Copy.copyOut, declared.Copying.the-variants.Refused as copiesRefused}
 use Rattle.follow_rules.specs.{Follow.followed}
 use Rattle.swap_rules.specs.{Swap.exchange, declared.SwapOutcome.the-variants.Refused as swapsRefused}
 use Rattle.recording_rules.specs.{Recording.recorded, declared.Recorded.the-variants.Refused as recordsRefused}
@@ -43,6 +44,9 @@ pub record PlaceOf (s : List ℕ) (p : Page) (d : Damage) : Type 0 where
   pub read : (reader : Reader) (out : List ℕ) → readOut s reader out .answered .answer ≡ readsRefused (Damaged d)
       → (d .position ≡ readingPlace p reader) × (passable (p .«cpu_id») (reader .last) (rest s p (d .position)) ≡ false)
       × (d .reason ≡ reasonAfter (p .«cpu_id») (reader .last) (rest s p (d .position)))
+  -- 7.13: exactly where reading gives it, with reading's place and reason
+  pub copy : (reader : Reader) (out : List ℕ)
+      → (copyOut s reader out .copied .answer ≡ copiesRefused (Damaged d)) ↔ (readOut s reader out .answered .answer ≡ readsRefused (Damaged d))
 
 abbrev pub Places : Type 0
 Places = (s : List ℕ) (p : Page) → opened s ≡ opensPage p → (d : Damage) → PlaceOf s p d

@@ -28,7 +28,7 @@ use Rattle.inspect_rules.specs.Inspect.{surveyed, summary, damaged, damageFound
 use Rattle.inspect_rules.specs.declared.Inspected.the-variants.{Whole, Refused}
 use Rattle.reader_rules.specs.Reader.{wrongReader, miscounted, takenTo}
 use Rattle.reader_rules.specs.Attach.{notAttached}
-use Rattle.reader_rules.specs.Read.{untouched, readingPlace, handedOut, eventRows, readAt, readOpened, readOut}
+use Rattle.reader_rules.specs.Read.{untouched, readingPlace, handedOut, eventRows, nextAt, nextOpened, readOut}
 use Rattle.reader_rules.specs.declared.Reader.{Reader}
 use Rattle.reader_rules.specs.declared.Attachment.the-variants.{Done}
 use Rattle.follow_rules.specs.Follow.{onward, followRows, followedOn, followed}
@@ -87,7 +87,7 @@ record-alike s placed out =
     (putInFront (piece (recordingOf s) placed (length out)) out))
 
 read-alike : (s : List ℕ) (reader : Reader) (out : List ℕ) → ButForReason (untouched reader out) (readOut s reader out) (readBefore s reader out)
-unfolding readOut readOpened readAt eventRows readBefore onRing
+unfolding readOut nextOpened nextAt eventRows readBefore onRing
 read-alike s reader out =
     let p = pageOf s in
     let at = readingPlace p reader in

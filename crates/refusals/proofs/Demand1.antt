@@ -2,10 +2,10 @@
 use Prim.Native.Nat.{ℕ, _+_, _-_, _<_}
 use native.Mathlib.Omega.{arith}
 use mathlib.Core.Path.{_≡_, refl, sym, ap, _∙_}
-use mathlib.Core.Bool.{Bool, true, false, _&&_, cond, true≢false}
+use mathlib.Core.Bool.{Bool, true, false, not, _&&_, cond, true≢false}
 use mathlib.Core.List.{List, [], _∷_, _++_}
 use lib.ListN.{length}
-use lib.Dec.{eqb}
+use lib.Dec.{eqb, ltb}
 use Rattle.table_rules.specs.Table.{first}
 use Rattle.table_rules.specs.Refusals.{paperNumber, paperName}
 use Rattle.table_rules.specs.declared.Refusal.{Refusal}
@@ -15,6 +15,8 @@ use Rattle.page_rules.specs.Page.{pageOf, pageRows, onRing}
 use Rattle.page_rules.specs.declared.Page.{Page}
 use Rattle.page_rules.specs.Fresh.{blank}
 use Rattle.page_rules.specs.Wake.{needWake, wakes}
+use Rattle.event_rules.specs.Event.{eventSize}
+use Rattle.event_rules.specs.Run.{passable, damageAfter}
 use Rattle.event_rules.specs.declared.Walk.{Walk}
 use Rattle.event_rules.specs.declared.Walk.the-variants as walks
 use Rattle.look_rules.specs.Live.{rest}
@@ -33,12 +35,18 @@ use Rattle.inspect_rules.specs.declared.Inspected.{Inspected}
 use Rattle.inspect_rules.specs.declared.Inspected.the-variants as inspects
 use Rattle.reader_rules.specs.Attach.{notAttached, attached}
 use Rattle.reader_rules.specs.Reader.{wrongReader}
-use Rattle.reader_rules.specs.Read.{AfterRead, untouched, readingPlace, nothing, ending, eventRows, readAt, readOpened, readOut}
+use Rattle.reader_rules.specs.Read.{AfterRead, untouched, readingPlace, ending, eventRows, Leaves, nextAt, nextOpened, reading, readOut}
 use Rattle.reader_rules.specs.declared.Reader.{Reader}
 use Rattle.reader_rules.specs.declared.Attached.{Attached}
 use Rattle.reader_rules.specs.declared.Attachment.{Attachment}
 use Rattle.reader_rules.specs.declared.Reading.{Reading}
 use Rattle.reader_rules.specs.declared.Reading.the-variants as reads
+use Rattle.slip_rules.specs.Copy.{AfterCopy, nothingCopied, copyEnding, copying, copyOut}
+use Rattle.slip_rules.specs.Confirm.{notConfirmed, wrongSlip, gone, confirmOpened, confirmed}
+use Rattle.slip_rules.specs.declared.Copying.{Copying}
+use Rattle.slip_rules.specs.declared.Copying.the-variants as copies
+use Rattle.slip_rules.specs.declared.Confirming.{Confirming}
+use Rattle.slip_rules.specs.declared.Confirmed.{Confirmed}
 use Rattle.follow_rules.specs.Follow.{followRows, followedOn, followed}
 use Rattle.swap_rules.specs.Swap.{AfterSwap, refuseSwap, exchanging, swapRows, carriedOver, exchangeOn, exchange}
 use Rattle.swap_rules.specs.declared.SwapOutcome.{SwapOutcome}
@@ -49,7 +57,7 @@ use Rattle.console_rules.specs.Console.{callNumber, createdNumber, inspectedNum
 use Rattle.console_rules.specs.Console.{Called, refusedCall, recordRows, emitCall}
 use Rattle.console_rules.proofs.Header.{told-by}
 use Rattle.refusals.specs.Demand1.{Asked, noDamage, walkTable, walkDamage, emitTable, inspectTable, Demand1}
-use Rattle.refusals.proofs.Rows.{Outcomes, Fits, refuses, says, past, either, ask, asks, asked}
+use Rattle.refusals.proofs.Rows.{Outcomes, refused, Fits, Other, refuses, says, past, either, ask, asks, asked}
 
 -- ---- what C is told too: for any way to tell an answer by which no other one is a refusal's
 
@@ -145,21 +153,48 @@ calls s bytes =
 abbrev attachments : Reader → Outcomes Attached Attachment
 attachments reader = record { answer = λ x. x .answer; refuse = notAttached reader; as-came = λ x. x .reader ≡ reader; keep = λ r. refl }
 
-module _ (reader : Reader) (out : List ℕ) where
-  abbrev readings : Outcomes AfterRead Reading
-  readings =
-      record {
-        answer = λ x. x .answered .answer;
-        refuse = untouched reader out;
-        as-came = λ x. (x .answered .reader ≡ reader) × (x .out ≡ out);
-        keep = λ r. (refl, refl);
-      }
+-- what reading and copying ask for the next event, whatever the call leaves of its end and of an event
+module _ (s : List ℕ) (reader : Reader) (out : List ℕ) where
+  abbrev p : Page
+  p = pageOf s
 
-  end-fits : (at : ℕ) (at-end same : Bool) {rows : List (Bool × Reading)} {x : AfterRead} → Fits readings rows x
-      → Fits readings ((at-end && same, reads.Empty) ∷ (at-end, reads.Moved) ∷ rows) (cond at-end (nothing (cond same reads.Empty reads.Moved) at reader out) x)
-  end-fits at true true fits = says readings refl (λ r e. let z : _≡_ {A = ℕ} 0 1 = cc in omega arith)
-  end-fits at true false fits = past readings (says readings refl (λ r e. let z : _≡_ {A = ℕ} 0 1 = cc in omega arith))
-  end-fits at false same fits = past readings (past readings fits)
+  abbrev at : ℕ
+  at = readingPlace p reader
+
+  abbrev bs : List ℕ
+  bs = rest s p at
+
+  abbrev same : Bool
+  same = eqb (p .generation) (reader .generation)
+
+  module _ {A R : Type 0} (o : Outcomes A R) (ended : ℕ → A) (event : ℕ → List ℕ → A) (empty moved : R) where
+    abbrev leaves : Leaves A
+    leaves = record { refused = o .refuse; ended = ended; event = event }
+
+    abbrev nextTable : List (Bool × R)
+    nextTable =
+        (wrongReader p reader, refused o refusal.Reader)
+        ∷ (eqb (reader .«read_pos») (p .«write_pos») && same, empty) ∷ (eqb (reader .«read_pos») (p .«write_pos»), moved)
+        ∷ (eqb at (p .«write_pos») && same, empty) ∷ (eqb at (p .«write_pos»), moved)
+        ∷ (not (passable (p .«cpu_id») (reader .last) bs), refused o (refusal.Damaged (damageAfter (p .«cpu_id») (reader .last) at bs)))
+        ∷ (ltb (length out) (eventSize bs), refused o refusal.Out)
+        ∷ (true, o .answer (event at bs)) ∷ []
+
+    module _ (ends : (place : ℕ) → o .answer (ended place) ≡ cond same empty moved)
+        (no-empty : Other o empty) (no-moved : Other o moved) (no-event : Other o (o .answer (event at bs))) where
+      end-fits : (place : ℕ) (stands same : Bool) {rows : List (Bool × R)} {x : A} → o .answer (ended place) ≡ cond same empty moved
+          → Fits o rows x → Fits o ((stands && same, empty) ∷ (stands, moved) ∷ rows) (cond stands (ended place) x)
+      end-fits place true true e fits = says o e no-empty
+      end-fits place true false e fits = past o (says o e no-moved)
+      end-fits place false same e fits = past o (past o fits)
+
+      next-fits : Fits o nextTable (nextOpened leaves s p reader out)
+      unfolding nextOpened nextAt eventRows
+      next-fits =
+          asks o ((wrongReader p reader, refusal.Reader) ∷ [])
+          (end-fits (reader .«read_pos») (eqb (reader .«read_pos») (p .«write_pos»)) same (ends (reader .«read_pos»))
+          (end-fits at (eqb at (p .«write_pos»)) same (ends at)
+          (asks o (eventRows (p .«cpu_id») reader out at bs) (says o refl no-event))))
 
 -- ---- every operation
 
@@ -171,7 +206,7 @@ exchanged true = refl
 exchanged false = refl
 
 pub demand1 : Demand1
-unfolding onRing attached readOut readOpened ending readAt eventRows followed followedOn followRows exchange exchangeOn swapRows carriedOver
+unfolding onRing attached readOut ending copyOut copyEnding confirmed confirmOpened followed followedOn followRows exchange exchangeOn swapRows carriedOver
     recorded recordedOn recordingRows beyondEnd pageRows emitCall recordRows recordAfter
 demand1 =
     record {
@@ -184,16 +219,44 @@ demand1 =
           (asks (attachments reader) (pageRows s) (says (attachments reader) refl (λ r e. let z : _≡_ {A = ℕ} 0 1 = cc in omega arith)));
       read =
           λ s reader out.
-          let o : Outcomes AfterRead Reading = readings reader out in
-          let p = pageOf s in
-          let at = readingPlace p reader in
+          let o : Outcomes AfterRead Reading =
+          record {
+            answer = λ x. x .answered .answer;
+            refuse = untouched reader out;
+            as-came = λ x. (x .answered .reader ≡ reader) × (x .out ≡ out);
+            keep = λ r. (refl, refl);
+          } in
+          let leaves = reading (pageOf s) reader out in
           asked o
           (asks o (pageRows s)
-          (asks o ((wrongReader p reader, refusal.Reader) ∷ [])
-          (end-fits reader out (reader .«read_pos») (eqb (reader .«read_pos») (p .«write_pos»)) (eqb (p .generation) (reader .generation))
-          (end-fits reader out at (eqb at (p .«write_pos»)) (eqb (p .generation) (reader .generation))
-          (asks o (eventRows (p .«cpu_id») reader out at (rest s p at))
-          (says o refl (λ r e. let z : _≡_ {A = ℕ} 0 1 = cc in omega arith)))))));
+          (next-fits s reader out o (leaves .ended) (leaves .event) reads.Empty reads.Moved (λ place. refl)
+          (λ r e. let z : _≡_ {A = ℕ} 0 1 = cc in omega arith) (λ r e. let z : _≡_ {A = ℕ} 0 1 = cc in omega arith)
+          (λ r e. let z : _≡_ {A = ℕ} 0 1 = cc in omega arith)));
+      copy =
+          λ s reader out.
+          let o : Outcomes AfterCopy Copying =
+          record {
+            answer = λ x. x .copied .answer;
+            refuse = nothingCopied reader out;
+            as-came = λ x. (x .copied .reader ≡ reader) × (x .out ≡ out);
+            keep = λ r. (refl, refl);
+          } in
+          let leaves = copying (pageOf s) reader out in
+          asked o
+          (asks o (pageRows s)
+          (next-fits s reader out o (leaves .ended) (leaves .event) copies.Empty copies.Moved (λ place. refl)
+          (λ r e. let z : _≡_ {A = ℕ} 0 1 = cc in omega arith) (λ r e. let z : _≡_ {A = ℕ} 0 1 = cc in omega arith)
+          (λ r e. let z : _≡_ {A = ℕ} 0 1 = cc in omega arith)));
+      confirm =
+          λ s reader slip.
+          let o : Outcomes Confirmed Confirming =
+          record { answer = λ x. x .answer; refuse = notConfirmed reader; as-came = λ x. x .reader ≡ reader; keep = λ r. refl } in
+          let p = pageOf s in
+          asked o
+          (asks o (pageRows s)
+          (asks o ((wrongReader p reader, refusal.Reader) ∷ (wrongSlip p reader slip, refusal.Reader) ∷ [])
+          (ask o (gone p slip) refl (λ r e. let z : _≡_ {A = ℕ} 0 1 = cc in omega arith)
+          (says o refl (λ r e. let z : _≡_ {A = ℕ} 0 1 = cc in omega arith)))));
       follow =
           λ s reader.
           asked (attachments reader)

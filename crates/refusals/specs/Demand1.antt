@@ -18,6 +18,9 @@ use Rattle.inspect_rules.specs.declared.Inspected.the-variants.{Refused as insp
 use Rattle.reader_rules.specs.{Reader.miscounted, Reader.wrongReader, Attach.attached, Read.readingPlace, Read.readOut, declared.Reader.Reader}
 use Rattle.reader_rules.specs.declared.Attachment.the-variants.{Done as attachesDone, Refused as attachesRefused}
 use Rattle.reader_rules.specs.declared.Reading.the-variants as reads
+use Rattle.slip_rules.specs.{Copy.slipOf, Copy.copyOut, Confirm.wrongSlip, Confirm.gone, Confirm.confirmed, declared.Slip.Slip}
+use Rattle.slip_rules.specs.declared.Copying.the-variants as copies
+use Rattle.slip_rules.specs.declared.Confirming.the-variants.{Done as confirmsDone, Again as confirmsAgain, Refused as confirmsRefused}
 use Rattle.follow_rules.specs.{Follow.followed}
 use Rattle.swap_rules.specs.{Swap.lastGeneration, Swap.countDiffers, Swap.exchange}
 use Rattle.swap_rules.specs.declared.SwapOutcome.the-variants as swaps
@@ -93,6 +96,30 @@ pub record Demand1 : Type 0 where
       ∷ (ltb (length out) (eventSize (rest s p at)), refusal 14)
       ∷ (true, reads.Event (eventSize (rest s p at))) ∷ []))
       (after .answered .answer) ((after .answered .reader ≡ reader) × (after .out ≡ out))
+  pub copy : (s : List ℕ) (reader : Reader) (out : List ℕ)
+      → let p = pageOf s in
+      let at = readingPlace p reader in
+      let bs = rest s p at in
+      let same = eqb (p .generation) (reader .generation) in
+      let after = copyOut s reader out in
+      Asked copies.Refused (damageAfter (p .«cpu_id») (reader .last) at bs)
+      (λ refusal.
+      pageTable s refusal
+      ++ ((wrongReader p reader, refusal 13)
+      ∷ (eqb (reader .«read_pos») (p .«write_pos») && same, copies.Empty) ∷ (eqb (reader .«read_pos») (p .«write_pos»), copies.Moved)
+      ∷ (eqb at (p .«write_pos») && same, copies.Empty) ∷ (eqb at (p .«write_pos»), copies.Moved)
+      ∷ (not (passable (p .«cpu_id») (reader .last) bs), refusal 10) ∷ (ltb (length out) (eventSize bs), refusal 14)
+      ∷ (true, copies.Event (slipOf p at bs)) ∷ []))
+      (after .copied .answer) ((after .copied .reader ≡ reader) × (after .out ≡ out))
+  -- 13 of the record, then of the slip
+  pub confirm : (s : List ℕ) (reader : Reader) (slip : Slip)
+      → let p = pageOf s in
+      let after = confirmed s reader slip in
+      Asked confirmsRefused noDamage
+      (λ refusal.
+      pageTable s refusal
+      ++ ((wrongReader p reader, refusal 13) ∷ (wrongSlip p reader slip, refusal 13) ∷ (gone p slip, confirmsAgain) ∷ (true, confirmsDone) ∷ []))
+      (after .answer) (after .reader ≡ reader)
   pub follow : (s : List ℕ) (reader : Reader)
       → let p = pageOf s in
       let after = followed s reader in

@@ -5,7 +5,7 @@ use replay_words::Changing;
 ghost use mathlib.Core.Path.{_≡_};
 
 pub fn on_ring(word: Changing, line: &[u8], state: State, ring: &mut [u8]) -> State
-    ensures { λ r. ⌜ (r .lengths ≡ state .lengths) × (r .readers ≡ state .readers) ⌝ }
+    ensures { λ r. ⌜ (r .lengths ≡ state .lengths) × (r .readers ≡ state .readers) × (r .slips ≡ state .slips) ⌝ }
 {
     match word {
         Changing::Put => memory::put(line, state, ring),

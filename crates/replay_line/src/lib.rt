@@ -19,7 +19,7 @@ ghost use Rattle.writer_rules.specs.Writer.{zeros as noneWritten};
 ghost use Rattle.reader_rules.specs.Reader.{readerWith};
 ghost use Rattle.serial_rules.specs.Step.{freshListener};
 
-// The listener stands apart from the records: its lines are given nothing else, and no other line is given it.
+// The listener stands apart from the records and slips: its lines are given nothing else, and no other line is given it.
 pub struct Playing {
     pub records: State,
     pub listener: Listener,
@@ -29,6 +29,7 @@ pub fn begun() -> Playing
     ensures lengths { λ r. ⌜ r .records .lengths ≡ replicate 4 0 ⌝ }
     ensures writers { λ r. ⌜ r .records .writers ≡ replicate 4 noneWritten ⌝ }
     ensures readers { λ r. ⌜ r .records .readers ≡ replicate 4 (readerWith 0 0 0 0) ⌝ }
+    ensures slips { λ r. ⌜ r .records .slips ≡ replicate 4 (record { position = 0; size = 0; sequence = 0; «tail_seen» = 0 }) ⌝ }
     ensures listener { λ r. ⌜ r .listener ≡ freshListener ⌝ }
 {
     let records = fresh();
@@ -53,6 +54,7 @@ fn on_records(
         Command::Unknown => unknown(state),
         Command::Writer => records::set_writer(line, state),
         Command::Reader => records::set_reader(line, state),
+        Command::Slip => replay_slips::set_slip(line, state),
         Command::Outsum => {
             say::sum(out);
             state
@@ -63,7 +65,7 @@ fn on_records(
     }
 }
 
-// No line changes the records and the listener both.
+// No line changes both the listener and any record or slip.
 pub fn step(
     line: &[u8],
     state: Playing,

@@ -19,5 +19,7 @@ pub fn on_ring(word: Looking, line: &[u8], state: State, ring: &[u8], out: &mut 
         Looking::Read => replay_reading::read(line, state, ring, out),
         Looking::Follow => replay_reading::follow(line, state, ring),
         Looking::Record => replay_recording::record(line, state, ring, out),
+        Looking::Copy => replay_slips::copy(line, state, ring, out),
+        Looking::Confirm => replay_slips::confirm(line, state, ring),
     }
 }

@@ -68,7 +68,7 @@ pub fn on_size(
     third: &mut [u8],
     fourth: &mut [u8],
 ) -> State
-    ensures { λ r. ⌜ (r .writers ≡ state .writers) × (r .readers ≡ state .readers) ⌝ }
+    ensures { λ r. ⌜ (r .writers ≡ state .writers) × (r .readers ≡ state .readers) × (r .slips ≡ state .slips) ⌝ }
 {
     match number_to(field(line, 1), 3) {
         0 => memory::size(line, state, 0, first),

@@ -30,7 +30,7 @@ pub fn inspect(state: State, ring: &[u8]) -> State
 // What attaching and following answer.
 fn attachment(state: State, r: usize, attached: Attached) -> State
     requires { ⌜ r ≤ 3 ⌝ }
-    ensures { λ next. ⌜ (next .lengths ≡ state .lengths) × (next .writers ≡ state .writers) ⌝ }
+    ensures { λ next. ⌜ (next .lengths ≡ state .lengths) × (next .writers ≡ state .writers) × (next .slips ≡ state .slips) ⌝ }
 {
     let answer = attached.answer;
     match answer {
@@ -42,7 +42,7 @@ fn attachment(state: State, r: usize, attached: Attached) -> State
 }
 
 pub fn attach(line: &[u8], state: State, ring: &[u8]) -> State
-    ensures { λ next. ⌜ (next .lengths ≡ state .lengths) × (next .writers ≡ state .writers) ⌝ }
+    ensures { λ next. ⌜ (next .lengths ≡ state .lengths) × (next .writers ≡ state .writers) × (next .slips ≡ state .slips) ⌝ }
 {
     let r = number_to(field(line, 2), 3);
     if r > 3 {
@@ -52,7 +52,7 @@ pub fn attach(line: &[u8], state: State, ring: &[u8]) -> State
 }
 
 pub fn follow(line: &[u8], state: State, ring: &[u8]) -> State
-    ensures { λ next. ⌜ (next .lengths ≡ state .lengths) × (next .writers ≡ state .writers) ⌝ }
+    ensures { λ next. ⌜ (next .lengths ≡ state .lengths) × (next .writers ≡ state .writers) × (next .slips ≡ state .slips) ⌝ }
 {
     let r = number_to(field(line, 2), 3);
     if r > 3 {
@@ -79,7 +79,7 @@ fn reading(answer: Reading, out: &[u8]) {
 }
 
 pub fn read(line: &[u8], state: State, ring: &[u8], out: &mut [u8]) -> State
-    ensures { λ next. ⌜ (next .lengths ≡ state .lengths) × (next .writers ≡ state .writers) ⌝ }
+    ensures { λ next. ⌜ (next .lengths ≡ state .lengths) × (next .writers ≡ state .writers) × (next .slips ≡ state .slips) ⌝ }
 {
     let r = number_to(field(line, 2), 3);
     let n = number_to(field(line, 3), 40960);

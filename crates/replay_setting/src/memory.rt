@@ -15,7 +15,7 @@ ghost use Prim.Native.Nat.{_≤_};
 
 pub fn size(line: &[u8], state: State, b: usize, buffer: &mut [u8]) -> State
     requires { ⌜ b ≤ 3 ⌝ }
-    ensures { λ r. ⌜ (r .writers ≡ state .writers) × (r .readers ≡ state .readers) ⌝ }
+    ensures { λ r. ⌜ (r .writers ≡ state .writers) × (r .readers ≡ state .readers) × (r .slips ≡ state .slips) ⌝ }
 {
     let Parsed::Is(n) = number(field(line, 2)) else {
         return unknown(state);

@@ -13,7 +13,7 @@ use writer::writer_with;
 ghost use mathlib.Core.Path.{_≡_};
 
 pub fn set_writer(line: &[u8], state: State) -> State
-    ensures { λ r. ⌜ (r .lengths ≡ state .lengths) × (r .readers ≡ state .readers) ⌝ }
+    ensures { λ r. ⌜ (r .lengths ≡ state .lengths) × (r .readers ≡ state .readers) × (r .slips ≡ state .slips) ⌝ }
 {
     let w = number_to(field(line, 1), 3);
     let Parsed::Is(last) = number(field(line, 2)) else {
@@ -33,7 +33,7 @@ pub fn set_writer(line: &[u8], state: State) -> State
 }
 
 pub fn set_reader(line: &[u8], state: State) -> State
-    ensures { λ r. ⌜ (r .lengths ≡ state .lengths) × (r .writers ≡ state .writers) ⌝ }
+    ensures { λ r. ⌜ (r .lengths ≡ state .lengths) × (r .writers ≡ state .writers) × (r .slips ≡ state .slips) ⌝ }
 {
     let r = number_to(field(line, 1), 3);
     let Parsed::Is(read_pos) = number(field(line, 2)) else {

@@ -5,6 +5,7 @@ use io::write_all;
 use libc::STDOUT_FILENO;
 use reader_rules::Reader;
 use script::hex::put_hex;
+use slip_rules::Slip;
 use table::paper_number;
 use table_rules::Refusal;
 use text::decimal::number_text;
@@ -53,6 +54,14 @@ pub fn reader(record: Reader) {
     number(b" ", record.handed);
     number(b" ", record.generation);
     words(b"\n");
+}
+
+// A slip stands before the reader's record, which ends the line.
+pub fn slip(copied: Slip) {
+    number(b" slip ", copied.position);
+    number(b" ", copied.size);
+    number(b" ", copied.sequence);
+    number(b" ", copied.tail_seen);
 }
 
 pub fn sum(bytes: &[u8]) {

@@ -8,7 +8,7 @@ ghost use Prim.Native.Nat.{_≤_};
 
 fn on_pair(line: &[u8], state: State, b: usize, c: usize, old: &mut [u8], new: &mut [u8]) -> State
     requires { ⌜ (b ≤ 3) × (c ≤ 3) ⌝ }
-    ensures { λ r. ⌜ (r .lengths ≡ state .lengths) × (r .readers ≡ state .readers) ⌝ }
+    ensures { λ r. ⌜ (r .lengths ≡ state .lengths) × (r .readers ≡ state .readers) × (r .slips ≡ state .slips) ⌝ }
 {
     let from = state.lengths[b];
     let to = state.lengths[c];
@@ -35,7 +35,7 @@ fn on_others(
     z: &mut [u8],
 ) -> State
     requires { ⌜ (b ≤ 3) × (i ≤ 3) × (j ≤ 3) × (k ≤ 3) ⌝ }
-    ensures { λ r. ⌜ (r .lengths ≡ state .lengths) × (r .readers ≡ state .readers) ⌝ }
+    ensures { λ r. ⌜ (r .lengths ≡ state .lengths) × (r .readers ≡ state .readers) × (r .slips ≡ state .slips) ⌝ }
 {
     let to = number_to(field(line, 2), 3);
     if to == i {
@@ -58,7 +58,7 @@ pub fn on_two(
     third: &mut [u8],
     fourth: &mut [u8],
 ) -> State
-    ensures { λ r. ⌜ (r .lengths ≡ state .lengths) × (r .readers ≡ state .readers) ⌝ }
+    ensures { λ r. ⌜ (r .lengths ≡ state .lengths) × (r .readers ≡ state .readers) × (r .slips ≡ state .slips) ⌝ }
 {
     match number_to(field(line, 1), 3) {
         0 => on_others(line, state, 0, 1, 2, 3, first, second, third, fourth),

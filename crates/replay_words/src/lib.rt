@@ -24,6 +24,8 @@ pub enum Looking {
     Read,
     Follow,
     Record,
+    Copy,
+    Confirm,
 }
 
 // A line on the listener.
@@ -38,6 +40,7 @@ pub enum Command {
     Outsum,
     Writer,
     Reader,
+    Slip,
     Swap,
     Changing(Changing),
     Looking(Looking),
@@ -93,6 +96,12 @@ fn looking_word(word: &[u8], fields: usize) -> Command {
     if begins(word, fields, b"record", 4) {
         return Command::Looking(Looking::Record);
     }
+    if begins(word, fields, b"copy", 5) {
+        return Command::Looking(Looking::Copy);
+    }
+    if begins(word, fields, b"confirm", 4) {
+        return Command::Looking(Looking::Confirm);
+    }
     Command::Unknown
 }
 
@@ -122,6 +131,9 @@ fn other_word(word: &[u8], fields: usize) -> Command {
     }
     if begins(word, fields, b"reader", 6) {
         return Command::Reader;
+    }
+    if begins(word, fields, b"slip", 6) {
+        return Command::Slip;
     }
     if begins(word, fields, b"swap", 4) {
         return Command::Swap;

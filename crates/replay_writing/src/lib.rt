@@ -39,7 +39,7 @@ fn emission(answer: emit_rules::Outcome) {
 
 // The fields that an emission has beside its payload.
 fn emit_payload(line: &[u8], state: State, ring: &mut [u8], payload: &[u8]) -> State
-    ensures { λ r. ⌜ (r .lengths ≡ state .lengths) × (r .readers ≡ state .readers) ⌝ }
+    ensures { λ r. ⌜ (r .lengths ≡ state .lengths) × (r .readers ≡ state .readers) × (r .slips ≡ state .slips) ⌝ }
 {
     let w = number_to(field(line, 2), 3);
     let event_type = number_to(field(line, 4), 4294967295);
@@ -69,7 +69,7 @@ fn emit_payload(line: &[u8], state: State, ring: &mut [u8], payload: &[u8]) -> S
 }
 
 pub fn emit(line: &[u8], state: State, ring: &mut [u8]) -> State
-    ensures { λ r. ⌜ (r .lengths ≡ state .lengths) × (r .readers ≡ state .readers) ⌝ }
+    ensures { λ r. ⌜ (r .lengths ≡ state .lengths) × (r .readers ≡ state .readers) × (r .slips ≡ state .slips) ⌝ }
 {
     let mut payload = buffer_room();
     let n = hex(field(line, 6), &mut payload);
@@ -81,7 +81,7 @@ pub fn emit(line: &[u8], state: State, ring: &mut [u8]) -> State
 
 // A payload of zero bytes, by its length.
 pub fn emitlen(line: &[u8], state: State, ring: &mut [u8]) -> State
-    ensures { λ r. ⌜ (r .lengths ≡ state .lengths) × (r .readers ≡ state .readers) ⌝ }
+    ensures { λ r. ⌜ (r .lengths ≡ state .lengths) × (r .readers ≡ state .readers) × (r .slips ≡ state .slips) ⌝ }
 {
     let n = number_to(field(line, 6), 40960);
     if n > 40960 {
@@ -100,7 +100,7 @@ fn exchange(answer: swap_rules::SwapOutcome) {
 }
 
 pub fn swap(line: &[u8], state: State, old: &mut [u8], new: &mut [u8]) -> State
-    ensures { λ r. ⌜ (r .lengths ≡ state .lengths) × (r .readers ≡ state .readers) ⌝ }
+    ensures { λ r. ⌜ (r .lengths ≡ state .lengths) × (r .readers ≡ state .readers) × (r .slips ≡ state .slips) ⌝ }
 {
     let w = number_to(field(line, 3), 3);
     if w > 3 {

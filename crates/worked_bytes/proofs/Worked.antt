@@ -24,7 +24,7 @@ use Rattle.emit_rules.specs.Emit.{writerRows, tooLarge, dropped, tooFar, disagr
 use Rattle.inspect_rules.specs.Inspect.{walked, surveyed, damaged, damageFound, inspectedOn, inspected}
 use Rattle.reader_rules.specs.Reader.{miscounted, ahead, wrongReader, atTail, movedTo, handedOne}
 use Rattle.reader_rules.specs.Attach.{attached}
-use Rattle.reader_rules.specs.Read.{ending, eventRows, readAt, readOpened, readOut}
+use Rattle.reader_rules.specs.Read.{ending, eventRows, nextAt, nextOpened, readOut}
 use Rattle.swap_rules.specs.Swap.{lastGeneration, countDiffers, swapRows, newRing}
 use Rattle.swap_rules.specs.Swap.{retired, carriedOver, exchangeOn, exchange}
 use Rattle.format_rules.specs.Format.{opening, closing, recording}
@@ -48,7 +48,7 @@ pages =
 
 reads : WorkedReads
 unfolding pages inspected inspectedOn damaged damageFound surveyed walked soundRun runUpTo passable reasonAfter reasonOf firstFrom wellFormed faults live rest bytesAt joined
-    atTail movedTo handedOne attached readOut readOpened wrongReader miscounted ahead ending readAt eventRows
+    atTail movedTo handedOne attached readOut nextOpened wrongReader miscounted ahead ending nextAt eventRows
 reads =
     record {
       inspects-none = refl;

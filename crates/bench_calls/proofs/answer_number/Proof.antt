@@ -17,6 +17,9 @@ enum-told-3 c = search needs
 enum-told-4 : tie.Need-enum-told-4
 enum-told-4 c = search needs
 
+enum-told-5 : tie.Need-enum-told-5
+enum-told-5 c = search needs
+
 enum-known-answer : tie.Need-enum-known-answer
 enum-known-answer c = search needs
 
@@ -36,7 +39,10 @@ returns-4 : tie.Need-returns-4
 returns-4 c = search needs
 
 returns-5 : tie.Need-returns-5
-returns-5 c = c .refusal-number .ensures ∙ sym (ap answerNumber (c .before .before .answer .given .1))
+returns-5 c = search needs
+
+returns-6 : tie.Need-returns-6
+returns-6 c = c .refusal-number .ensures ∙ sym (ap answerNumber (c .before .before .answer .given .1))
 
 pub answer-number-spec : {M : Type 1} → statement M
 answer-number-spec =
@@ -46,10 +52,12 @@ answer-number-spec =
     enum-told-2
     enum-told-3
     enum-told-4
+    enum-told-5
     enum-known-answer
     refusal-number-requires
     returns
     returns-2
     returns-3
     returns-4
-    returns-5)
+    returns-5
+    returns-6)

@@ -1,0 +1,9 @@
+pub mod Parts
+pub mod Accepted
+pub mod Ground
+pub mod Copies
+pub mod Confirms
+pub mod Standing
+pub mod Acts
+pub mod Beside
+pub mod Once

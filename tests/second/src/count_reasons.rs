@@ -13,13 +13,14 @@ use std::path::Path;
 
 const HEADER: u64 = 32;
 const REASONS: [u8; 7] = [1, 2, 3, 4, 5, 6, 7];
-const CALLS: [Call; 6] = [Call::Emit, Call::Inspect, Call::Read, Call::Swap, Call::Follow, Call::Record];
+const CALLS: [Call; 7] = [Call::Emit, Call::Inspect, Call::Read, Call::Copy, Call::Swap, Call::Follow, Call::Record];
 
 #[derive(Clone, Copy, Debug, PartialEq, Eq, PartialOrd, Ord)]
 enum Call {
     Emit,
     Inspect,
     Read,
+    Copy,
     Swap,
     Follow,
     Record,
@@ -115,6 +116,7 @@ fn refused(machine: &Machine, line: &[u8], answer: &[u8]) -> Option<Refused> {
     let (call, above) = match word(line, 0).as_str() {
         "emit" | "emitlen" => (Call::Emit, None),
         "read" => (Call::Read, Some(machine.readers[number(line, 2) as usize].last)),
+        "copy" => (Call::Copy, Some(machine.readers[number(line, 2) as usize].last)),
         "inspect" => (Call::Inspect, Some(before(ring, at))),
         "swap" => (Call::Swap, Some(before(ring, at))),
         "follow" => (Call::Follow, Some(before(ring, at))),

@@ -5,6 +5,7 @@ mod count_reasons;
 mod count_recordings;
 mod count_rings;
 mod count_serial;
+mod count_slips;
 mod count_stretches;
 mod count_wakes;
 mod generate;
@@ -48,7 +49,8 @@ fn count(folder: &Path) -> Result<(), String> {
     count_recordings::print(folder)?;
     count_stretches::print(folder)?;
     count_serial::print(folder)?;
-    count_reasons::print(folder)
+    count_reasons::print(folder)?;
+    count_slips::print(folder)
 }
 
 /// One byte above the longest script tells that it is too long; the rest need not be held.

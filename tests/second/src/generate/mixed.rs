@@ -5,7 +5,7 @@ use super::sketch::Sketch;
 
 pub fn write(pen: &mut Pen) {
     wrong_lines(pen);
-    for _ in 0..2600 {
+    for _ in 0..3000 {
         one_step(pen);
     }
     for buffer in 0..4 {
@@ -53,7 +53,7 @@ fn wrong_lines(pen: &mut Pen) {
     }
 }
 
-const WRONG: [&str; 96] = [
+const WRONG: [&str; 122] = [
     "",
     " ",
     "  ",
@@ -150,12 +150,38 @@ const WRONG: [&str; 96] = [
     "swap 0 0 0",
     "swap 0 4 0",
     "swap 0 1 4",
+    "slip",
+    "slip 0 0 0 0",
+    "slip 4 0 0 0 0",
+    "slip 0 0 0 0 0 0",
+    "slip 0 0 0 0 00",
+    "slip 0 18446744073709551616 0 0 0",
+    "slip 0 0 18446744073709551616 0 0",
+    "slip 0 0 0 0 x",
+    "slip  0 0 0 0",
+    "slips 0 0 0 0 0",
+    "copy 0 0 0",
+    "copy 4 0 0 40960",
+    "copy 0 4 0 40960",
+    "copy 0 0 4 40960",
+    "copy 0 0 0 40961",
+    "copy 0 0 0 -",
+    "copy 0 0 0 40960 0",
+    "copy 0 0 0 40960 ",
+    "copi 0 0 0 40960",
+    "confirm 0 0",
+    "confirm 4 0 0",
+    "confirm 0 4 0",
+    "confirm 0 0 4",
+    "confirm 0 0 0 0",
+    "confirm 0 0 0 ",
+    "Confirm 0 0 0",
 ];
 
 fn any_line(pen: &mut Pen) -> String {
     let buffer = index(pen);
     let other = index(pen);
-    match pen.random.below(60) {
+    match pen.random.below(76) {
         0..=19 => emission(pen, buffer, other),
         20..=30 => format!("read {buffer} {other} {}", lent(pen)),
         31..=34 => format!("inspect {buffer}"),
@@ -169,6 +195,9 @@ fn any_line(pen: &mut Pen) -> String {
         53..=54 => reader(pen, buffer, other),
         55..=57 => writer(pen, buffer, other),
         58 => format!("create {buffer} {}", pen.random.next() as u16),
+        60..=66 => format!("copy {buffer} {other} {} {}", index(pen), lent(pen)),
+        67..=73 => format!("confirm {buffer} {other} {}", index(pen)),
+        74..=75 => slip(pen, buffer, other),
         _ => format!("size {buffer} {}", pen.random.pick(&[8448, 8448, 8704, 8704, 9216, 12_288, 8447, 8449, 0, 40_960, 40_961])),
     }
 }
@@ -221,6 +250,19 @@ fn reader(pen: &mut Pen, buffer: u64, reader: u64) -> String {
     let handed = pen.random.pick(&[0, last, last, last.wrapping_add(1)]);
     let generation = pen.random.pick(&[0, 1, 2, pen.word_at(buffer, 32), u64::MAX]);
     format!("reader {reader} {} {last} {handed} {generation}", pen.random.pick(&near))
+}
+
+/// Near the ring's positions and the record of the reader, or absurd.
+fn slip(pen: &mut Pen, buffer: u64, reader: u64) -> String {
+    let record = pen.machine.readers[reader as usize];
+    let (tail, write) = (pen.tail_pos(buffer as usize), pen.write_pos(buffer as usize));
+    let positions = [record.read_pos, tail, tail.wrapping_sub(1), write.wrapping_sub(40), any_number(pen)];
+    let position = pen.random.pick(&positions);
+    let sizes = [32, 40, 31, write.wrapping_sub(position), write.wrapping_sub(position).wrapping_add(1), any_number(pen)];
+    let sequences = [record.last.wrapping_add(1), record.last.wrapping_add(1), record.last, any_number(pen)];
+    let tails = [tail, tail.wrapping_sub(1), 0, position, any_number(pen)];
+    let (size, sequence, tail_seen) = (pen.random.pick(&sizes), pen.random.pick(&sequences), pen.random.pick(&tails));
+    format!("slip {} {position} {size} {sequence} {tail_seen}", index(pen))
 }
 
 /// Mostly one that agrees with the ring, so that emission and swap go on.

@@ -11,6 +11,7 @@ mod reasons;
 mod recordings;
 mod serial;
 mod sketch;
+mod slips;
 mod stretches;
 
 use pen::Pen;
@@ -20,7 +21,7 @@ type Kind = (&'static str, u64, fn(&mut Pen));
 
 /// Name and script of each of the stored set.
 pub fn scripts() -> Vec<(&'static str, Vec<u8>)> {
-    let kinds: [Kind; 8] = [
+    let kinds: [Kind; 9] = [
         ("life", 101, life::write),
         ("damage", 202, damage::write),
         ("edges", 303, edges::write),
@@ -29,6 +30,7 @@ pub fn scripts() -> Vec<(&'static str, Vec<u8>)> {
         ("stretches", 606, stretches::write),
         ("serial", 707, serial::write),
         ("reasons", 808, reasons::write),
+        ("slips", 909, slips::write),
     ];
     kinds.into_iter().map(|(name, seed, write)| (name, written(seed, write))).collect()
 }

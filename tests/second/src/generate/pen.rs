@@ -75,6 +75,18 @@ impl Pen {
         self.say(format!("read {buffer} {reader} {lent}"))
     }
 
+    pub fn slip(&mut self, slip: usize, position: u64, size: u64, sequence: u64, tail_seen: u64) {
+        self.say(format!("slip {slip} {position} {size} {sequence} {tail_seen}"));
+    }
+
+    pub fn copy(&mut self, buffer: usize, reader: usize, slip: usize, lent: u64) -> String {
+        self.say(format!("copy {buffer} {reader} {slip} {lent}"))
+    }
+
+    pub fn confirm(&mut self, buffer: usize, reader: usize, slip: usize) -> String {
+        self.say(format!("confirm {buffer} {reader} {slip}"))
+    }
+
     pub fn record(&mut self, buffer: usize, placed: u64, lent: u64) -> String {
         self.say(format!("record {buffer} {placed} {lent}"))
     }

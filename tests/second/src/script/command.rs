@@ -2,7 +2,7 @@
 
 use super::fields::{at_most, bytes, number};
 use super::LONGEST_BUFFER;
-use crate::ring::{Reader, Writer};
+use crate::ring::{Reader, Slip, Writer};
 
 pub enum Command {
     Size { buffer: usize, length: u64 },
@@ -12,11 +12,14 @@ pub enum Command {
     Outsum,
     Writer { writer: usize, record: Writer },
     Reader { reader: usize, record: Reader },
+    Slip { slip: usize, numbers: Slip },
     Create { buffer: usize, cpu_id: u16 },
     Emit { buffer: usize, writer: usize, timestamp: u64, event_type: u32, origin_class: u8, payload: Vec<u8> },
     Inspect { buffer: usize },
     Attach { buffer: usize, reader: usize },
     Read { buffer: usize, reader: usize, lent: usize },
+    Copy { buffer: usize, reader: usize, slip: usize, lent: usize },
+    Confirm { buffer: usize, reader: usize, slip: usize },
     Follow { buffer: usize, reader: usize },
     Swap { from: usize, to: usize, writer: usize },
     Record { buffer: usize, placed: u64, lent: usize },
@@ -31,6 +34,7 @@ pub fn parse(line: &[u8]) -> Option<Command> {
     buffer_command(word, rest)
         .or_else(|| record_command(word, rest))
         .or_else(|| ring_command(word, rest))
+        .or_else(|| slip_command(word, rest))
         .or_else(|| serial_command(word, rest))
 }
 
@@ -60,6 +64,10 @@ fn record_command(word: &[u8], rest: &[&[u8]]) -> Option<Command> {
                 generation: number(generation)?,
             },
         },
+        (b"slip", [s, pos, size, sequence, tail]) => Command::Slip {
+            slip: index(s)?,
+            numbers: Slip { position: number(pos)?, size: number(size)?, sequence: number(sequence)?, tail_seen: number(tail)? },
+        },
         _ => return None,
     })
 }
@@ -75,6 +83,14 @@ fn ring_command(word: &[u8], rest: &[&[u8]]) -> Option<Command> {
         (b"follow", [b, r]) => Command::Follow { buffer: index(b)?, reader: index(r)? },
         (b"swap", [b, c, w]) if b != c => Command::Swap { from: index(b)?, to: index(c)?, writer: index(w)? },
         (b"record", [b, placed, n]) => Command::Record { buffer: index(b)?, placed: number(placed)?, lent: length(n)? },
+        _ => return None,
+    })
+}
+
+fn slip_command(word: &[u8], rest: &[&[u8]]) -> Option<Command> {
+    Some(match (word, rest) {
+        (b"copy", [b, r, s, n]) => Command::Copy { buffer: index(b)?, reader: index(r)?, slip: index(s)?, lent: length(n)? },
+        (b"confirm", [b, r, s]) => Command::Confirm { buffer: index(b)?, reader: index(r)?, slip: index(s)? },
         _ => return None,
     })
 }
@@ -100,7 +116,7 @@ fn emission(call: &[&[u8]], payload: Vec<u8>) -> Option<Command> {
     })
 }
 
-/// Buffers, writer's records and reader's records are numbered 0 to 3.
+/// Buffers, writer's records, reader's records and slips are numbered 0 to 3.
 fn index(field: &[u8]) -> Option<usize> {
     at_most(field, 3).map(|value| value as usize)
 }

@@ -4,7 +4,9 @@ use super::adler::adler;
 use super::command::{parse, Command};
 use super::fields::hex;
 use super::LONGEST_BUFFER;
-use crate::ring::{self, Emitted, NewEvent, ReadAnswer, Reader, RecordingReader, Refusal, Report, Swapped, Writer};
+use crate::ring::{
+    self, Confirmed, Copied, Emitted, NewEvent, ReadAnswer, Reader, RecordingReader, Refusal, Report, Slip, Swapped, Writer,
+};
 
 pub const UNKNOWN: &str = "unknown";
 
@@ -12,6 +14,7 @@ pub struct Machine {
     pub buffers: [Vec<u8>; 4],
     pub writers: [Writer; 4],
     pub readers: [Reader; 4],
+    pub slips: [Slip; 4],
     pub output: Vec<u8>,
     pub recording_reader: RecordingReader,
 }
@@ -22,6 +25,7 @@ impl Machine {
             buffers: Default::default(),
             writers: Default::default(),
             readers: Default::default(),
+            slips: Default::default(),
             output: vec![0; LONGEST_BUFFER],
             recording_reader: Default::default(),
         }
@@ -50,6 +54,10 @@ impl Machine {
                 self.readers[reader] = record;
                 "ok".to_string()
             }
+            Command::Slip { slip, numbers } => {
+                self.slips[slip] = numbers;
+                "ok".to_string()
+            }
             Command::Create { buffer, cpu_id } => said(ring::create(&mut self.buffers[buffer], cpu_id).map(|()| "done")),
             Command::Emit { buffer, writer, timestamp, event_type, origin_class, payload } => {
                 self.emit(buffer, writer, &NewEvent { timestamp, event_type, origin_class, payload: &payload })
@@ -57,6 +65,8 @@ impl Machine {
             Command::Inspect { buffer } => self.inspect(buffer),
             Command::Attach { buffer, reader } => self.attach(buffer, reader),
             Command::Read { buffer, reader, lent } => self.read(buffer, reader, lent),
+            Command::Copy { buffer, reader, slip, lent } => self.copy(buffer, reader, slip, lent),
+            Command::Confirm { buffer, reader, slip } => self.confirm(buffer, reader, slip),
             Command::Follow { buffer, reader } => self.follow(buffer, reader),
             Command::Swap { from, to, writer } => self.swap(from, to, writer),
             Command::Record { buffer, placed, lent } => self.record(buffer, placed, lent),
@@ -137,6 +147,37 @@ impl Machine {
                 ReadAnswer::Event(size) => format!("event {size} bytes {}", hex(&self.output[..size as usize])),
                 ReadAnswer::Empty => "empty".to_string(),
                 ReadAnswer::Moved => "moved".to_string(),
+            }
+        });
+        said(answer) + &self.reader_record(reader)
+    }
+
+    /// The slip is written with an event alone.
+    fn copy(&mut self, buffer: usize, reader: usize, slip: usize, lent: usize) -> String {
+        let outcome = ring::copy(&self.buffers[buffer], self.readers[reader], &mut self.output[..lent]);
+        let answer = outcome.map(|(answer, record)| {
+            self.readers[reader] = record;
+            match answer {
+                Copied::Event(handed_out) => {
+                    self.slips[slip] = handed_out;
+                    let Slip { position, size, sequence, tail_seen } = handed_out;
+                    let bytes = hex(&self.output[..size as usize]);
+                    format!("event {size} bytes {bytes} slip {position} {size} {sequence} {tail_seen}")
+                }
+                Copied::Empty => "empty".to_string(),
+                Copied::Moved => "moved".to_string(),
+            }
+        });
+        said(answer) + &self.reader_record(reader)
+    }
+
+    fn confirm(&mut self, buffer: usize, reader: usize, slip: usize) -> String {
+        let outcome = ring::confirm(&self.buffers[buffer], self.readers[reader], self.slips[slip]);
+        let answer = outcome.map(|(answer, record)| {
+            self.readers[reader] = record;
+            match answer {
+                Confirmed::Done => "done",
+                Confirmed::Again => "again",
             }
         });
         said(answer) + &self.reader_record(reader)

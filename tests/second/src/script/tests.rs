@@ -121,3 +121,74 @@ fn wrong_lines_leave_the_reader() {
     let (longest, longer) = ("00".repeat(40_960), "00".repeat(40_961));
     assert_eq!(answers(&format!("feed {longer}\nfeed {longest}\nend\n")), "unknown\nfed fault 1 at 0\nended\n");
 }
+
+/// The record stays with an event, and the slip that stands in the answer is the one that is confirmed.
+#[test]
+fn an_event_is_copied_and_confirmed() {
+    let script = "size 0 8448\ncreate 0 3\nemit 0 1 5 6 7 aabb\nattach 0 2\ncopy 0 2 3 33\ncopy 0 2 3 34\nconfirm 0 2 3\n\
+                  confirm 0 2 3\ncopy 0 2 3 0\n";
+    let event = "2200000020000300010000000000000005000000000000000600000007000000aabb";
+    let expected = [
+        "refused 14 reader 0 0 0 1".to_string(),
+        format!("event 34 bytes {event} slip 0 34 1 0 reader 0 0 0 1"),
+        "done reader 34 1 1 1".to_string(),
+        "refused 13 reader 34 1 1 1".to_string(),
+        "empty reader 34 1 1 1".to_string(),
+    ];
+    assert_eq!(answers(script).lines().collect::<Vec<&str>>()[4..], expected);
+}
+
+/// Slips are all 0 at first. One is written by its own line and by a copy with an event alone; a confirm leaves it.
+#[test]
+fn slips_are_kept() {
+    let two_events = "size 0 8448\ncreate 0 3\nemitlen 0 0 1 1 1 0\nemitlen 0 0 1 1 1 0\nconfirm 0 0 0\n";
+    let script = "slip 1 0 64 18446744073709551615 18446744073709551615\ncopy 0 0 1 31\nconfirm 0 1 1\nconfirm 0 2 1\n\
+                  copy 0 1 1 0\nconfirm 0 3 1\n\
+                  slip 1 18446744073709551615 18446744073709551615 18446744073709551615 0\nconfirm 0 0 1\n";
+    let answers = answers(&format!("{two_events}{script}"));
+    let done = "done reader 64 18446744073709551615 1 0";
+    let expected = [
+        "refused 13 reader 0 0 0 0",
+        "ok",
+        "refused 14 reader 0 0 0 0",
+        done,
+        done,
+        "moved reader 64 18446744073709551615 1 0",
+        done,
+        "ok",
+        "refused 13 reader 0 0 0 0",
+    ];
+    assert_eq!(answers.lines().collect::<Vec<&str>>()[4..], expected);
+}
+
+#[test]
+fn after_again_the_output_keeps_the_copied_bytes() {
+    let four_events = format!("size 0 8448\ncreate 0 3\n{}", "emitlen 0 0 1 1 1 32\n".repeat(4));
+    let script = "attach 0 0\ncopy 0 0 0 64\noutsum\nemitlen 0 0 1 1 1 0\nconfirm 0 0 0\noutsum\n";
+    let answers = answers(&format!("{four_events}{script}"));
+    let answers: Vec<&str> = answers.lines().collect();
+    assert_eq!(answers[10], "again reader 64 0 0 1");
+    assert_eq!(answers[8], answers[11]);
+}
+
+#[test]
+fn wrong_fields_of_slips_copies_and_confirms() {
+    let wrong = [
+        "slip 4 0 0 0 0",
+        "slip 0 0 0 0",
+        "slip 0 0 0 0 18446744073709551616",
+        "copy 0 0 4 1",
+        "copy 0 4 0 1",
+        "copy 4 0 0 1",
+        "copy 0 0 0 40961",
+        "copy 0 0 0",
+        "confirm 0 0 4",
+        "confirm 0 4 0",
+        "confirm 4 0 0",
+        "confirm 0 0",
+    ];
+    for line in wrong {
+        assert_eq!(answers(&format!("{line}\n")), "unknown\n", "{line}");
+    }
+    assert_eq!(answers("copy 0 0 0 40960\nconfirm 0 0 0\n"), "refused 1 reader 0 0 0 0\n".repeat(2));
+}

@@ -2,14 +2,14 @@
 //! in headers over the data's end, met by every call that looks at events.
 
 mod alone;
-mod bad;
+pub(super) mod bad;
 mod calls;
 mod capacities;
 mod left;
 mod passing;
-mod rings;
+pub(super) mod rings;
 mod sequences;
-mod together;
+pub(super) mod together;
 mod two_events;
 mod wrapped;
 

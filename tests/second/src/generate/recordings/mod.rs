@@ -8,7 +8,7 @@ mod drawn;
 mod ends;
 mod lived;
 mod pieces;
-mod refusals;
+pub(super) mod refusals;
 mod wrong;
 
 use super::pen::Pen;

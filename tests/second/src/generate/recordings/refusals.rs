@@ -33,7 +33,7 @@ fn one_case(pen: &mut Pen, first: u8, alone: bool) {
     pen.sum(0);
 }
 
-fn buffer_length(pen: &mut Pen, numbers: &[u8]) -> u64 {
+pub fn buffer_length(pen: &mut Pen, numbers: &[u8]) -> u64 {
     match (numbers.contains(&1), numbers.contains(&5)) {
         (true, _) => pen.random.pick(&[0, 1, 100, 191, 192, 4097, 8192, 8447]),
         (_, true) => pen.random.pick(&[8449, 8479, 8480, 8704, 40_960]),
@@ -42,7 +42,7 @@ fn buffer_length(pen: &mut Pen, numbers: &[u8]) -> u64 {
 }
 
 /// Numbers 1 and 5 are in the buffer's length already.
-fn harm(pen: &mut Pen, sketch: &Sketch, number: u8) {
+pub fn harm(pen: &mut Pen, sketch: &Sketch, number: u8) {
     match number {
         2 => {
             let at = pen.random.below(8) as usize;

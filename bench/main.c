@@ -12,6 +12,9 @@
 #include <string.h>
 
 uint32_t bench_read(const uint8_t *ring, size_t ring_bytes, uint8_t *record, size_t record_bytes, uint8_t *out, size_t out_bytes);
+uint32_t bench_copy(const uint8_t *ring, size_t ring_bytes, uint8_t *record, size_t record_bytes, uint8_t *slip, size_t slip_bytes, uint8_t *out,
+                    size_t out_bytes);
+uint32_t bench_confirm(const uint8_t *ring, size_t ring_bytes, uint8_t *record, size_t record_bytes, const uint8_t *slip, size_t slip_bytes);
 uint32_t bench_swap(uint8_t *old, size_t old_bytes, uint8_t *new, size_t new_bytes, uint8_t *record, size_t record_bytes);
 uint32_t bench_record(const uint8_t *ring, size_t ring_bytes, uint64_t placed, uint8_t *out, size_t out_bytes);
 uint64_t bench_listen(const uint8_t *file, size_t file_bytes, uint64_t size);
@@ -27,6 +30,8 @@ enum { ARCHIVE, PLAIN, PREPARED };
 /* the recording's opening, and what comes before and behind the events together */
 #define OPENING_BYTES 8
 #define ENDS_BYTES 32
+/* what bench_confirm answers where the event has gone */
+#define AGAIN 1003
 /* from where on bench_record tells how many bytes it put */
 #define PUT 2000
 
@@ -34,6 +39,7 @@ static uint8_t ring[3][LARGEST];
 static uint8_t new_ring[2][LARGEST];
 static uint8_t record[3][24];
 static uint8_t reader[2][32];
+static uint8_t slip[2][32];
 static uint8_t out[2][2048];
 /* longer than any payload: with 4,096 the rings would lie whole pages behind it, from where the C library copies in another order */
 static uint8_t payload[5120];
@@ -191,18 +197,24 @@ static void measure_inspect(const char *group, size_t capacity, unsigned long ev
     printf("%s|capacity %zu, %lu events|0|%lu\n", group, capacity, events, events);
 }
 
+/* for both a reader that was attached when the tail stood there */
+static void attach(uint64_t tail)
+{
+    memset(reader, 0, sizeof reader);
+    for (int who = ARCHIVE; who <= PLAIN; who++) {
+        memcpy(reader[who], &tail, sizeof tail);
+        reader[who][24] = 1;
+    }
+}
+
 /* the first event, by an attached reader that stands there */
 static void measure_read(const char *group, size_t capacity, size_t payload_bytes)
 {
     uint32_t answer[2];
 
     hand_to_both();
-    memset(reader, 0, sizeof reader);
+    attach(number_at(ring[PREPARED] + 72));
     memset(out, 0xEE, sizeof out);
-    for (int who = ARCHIVE; who <= PLAIN; who++) {
-        memcpy(reader[who], ring[PREPARED] + 72, 8);
-        reader[who][24] = 1;
-    }
     answer[ARCHIVE] = bench_read(ring[ARCHIVE], ring_bytes, reader[ARCHIVE], sizeof reader[ARCHIVE], out[ARCHIVE], sizeof out[ARCHIVE]);
     call_ended();
     answer[PLAIN] = plain_read(ring[PLAIN], ring_bytes, reader[PLAIN], sizeof reader[PLAIN], out[PLAIN], sizeof out[PLAIN]);
@@ -211,6 +223,50 @@ static void measure_read(const char *group, size_t capacity, size_t payload_byte
     same(group, reader[ARCHIVE], reader[PLAIN], sizeof reader[PLAIN]);
     same(group, out[ARCHIVE], out[PLAIN], sizeof out[PLAIN]);
     printf("%s|capacity %zu, payload %zu|%zu|1\n", group, capacity, payload_bytes, event_bytes(payload_bytes));
+}
+
+/* the same event copied: the record stays, and a slip is written */
+static void measure_copy(const char *group, size_t capacity, size_t payload_bytes)
+{
+    uint32_t answer[2];
+
+    hand_to_both();
+    attach(number_at(ring[PREPARED] + 72));
+    memset(slip, 0xEE, sizeof slip);
+    memset(out, 0xEE, sizeof out);
+    answer[ARCHIVE] = bench_copy(ring[ARCHIVE], ring_bytes, reader[ARCHIVE], sizeof reader[ARCHIVE], slip[ARCHIVE], sizeof slip[ARCHIVE], out[ARCHIVE],
+                                 sizeof out[ARCHIVE]);
+    call_ended();
+    answer[PLAIN] =
+        plain_copy(ring[PLAIN], ring_bytes, reader[PLAIN], sizeof reader[PLAIN], slip[PLAIN], sizeof slip[PLAIN], out[PLAIN], sizeof out[PLAIN]);
+    call_ended();
+    same_answer(group, LAMIPEONGA_DONE, answer[ARCHIVE], answer[PLAIN]);
+    same(group, reader[ARCHIVE], reader[PLAIN], sizeof reader[PLAIN]);
+    same(group, slip[ARCHIVE], slip[PLAIN], sizeof slip[PLAIN]);
+    same(group, out[ARCHIVE], out[PLAIN], sizeof out[PLAIN]);
+    printf("%s|capacity %zu, payload %zu|%zu|1\n", group, capacity, payload_bytes, event_bytes(payload_bytes));
+}
+
+/* the slip of a ring's first event confirmed, after so many further emissions */
+static void measure_confirm(const char *group, size_t capacity, size_t payload_bytes, unsigned long emissions, uint32_t wanted)
+{
+    uint64_t tail = number_at(ring[PREPARED] + 72);
+    uint64_t copied[4] = {tail, event_bytes(payload_bytes), 1, tail};
+    uint32_t answer[2];
+
+    add(payload_bytes, emissions);
+    hand_to_both();
+    attach(tail);
+    for (int who = ARCHIVE; who <= PLAIN; who++)
+        memcpy(slip[who], copied, sizeof copied);
+    answer[ARCHIVE] = bench_confirm(ring[ARCHIVE], ring_bytes, reader[ARCHIVE], sizeof reader[ARCHIVE], slip[ARCHIVE], sizeof slip[ARCHIVE]);
+    call_ended();
+    answer[PLAIN] = plain_confirm(ring[PLAIN], ring_bytes, reader[PLAIN], sizeof reader[PLAIN], slip[PLAIN], sizeof slip[PLAIN]);
+    call_ended();
+    same_answer(group, wanted, answer[ARCHIVE], answer[PLAIN]);
+    same(group, reader[ARCHIVE], reader[PLAIN], sizeof reader[PLAIN]);
+    same(group, slip[ARCHIVE], slip[PLAIN], sizeof slip[PLAIN]);
+    printf("%s|capacity %zu, payload %zu, %lu emitted since|0|0\n", group, capacity, payload_bytes, emissions);
 }
 
 static void measure_create(const char *group, size_t capacity)
@@ -330,6 +386,31 @@ static void readings(size_t capacity)
     }
 }
 
+static void copies(size_t capacity)
+{
+    for EACH (i, payloads) {
+        fill(capacity, payloads[i]);
+        measure_copy("copy", capacity, payloads[i]);
+    }
+    for EACH (i, payloads) {
+        fill_at(capacity, payloads[i], half_before_end(capacity, payloads[i]));
+        measure_copy("copy, half behind the data's end", capacity, payloads[i]);
+    }
+}
+
+/* in a full ring the first emission takes the oldest event's place */
+static void confirmations(size_t capacity)
+{
+    fresh(capacity);
+    add(32, 1);
+    measure_confirm("confirm, done", capacity, 32, 0, LAMIPEONGA_DONE);
+    fresh(capacity);
+    add(32, 1);
+    measure_confirm("confirm, done", capacity, 32, 1, LAMIPEONGA_DONE);
+    fill(capacity, 32);
+    measure_confirm("confirm, again", capacity, 32, 1, AGAIN);
+}
+
 static void inspections(size_t capacity)
 {
     fresh(capacity);
@@ -434,10 +515,12 @@ static void print_marks(void)
     printf("%016lx", (unsigned long)call_ended);
     printf(" %016lx %016lx %016lx %016lx %016lx", (unsigned long)lamipeonga_create, (unsigned long)lamipeonga_emit, (unsigned long)lamipeonga_inspect,
            (unsigned long)bench_read, (unsigned long)bench_swap);
-    printf(" %016lx %016lx", (unsigned long)bench_record, (unsigned long)bench_listen);
+    printf(" %016lx %016lx %016lx %016lx", (unsigned long)bench_record, (unsigned long)bench_listen, (unsigned long)bench_copy,
+           (unsigned long)bench_confirm);
     printf(" %016lx %016lx %016lx %016lx %016lx", (unsigned long)plain_create, (unsigned long)plain_emit, (unsigned long)plain_inspect,
            (unsigned long)plain_read, (unsigned long)plain_swap);
-    printf(" %016lx %016lx\n", (unsigned long)plain_record, (unsigned long)plain_listen);
+    printf(" %016lx %016lx %016lx %016lx\n", (unsigned long)plain_record, (unsigned long)plain_listen, (unsigned long)plain_copy,
+           (unsigned long)plain_confirm);
 }
 
 int main(void)
@@ -455,9 +538,14 @@ int main(void)
     measure_swap("warm", 4096, 4096, 64);
     measure_record("warm", ", the whole", 64, 0, sizeof new_ring[0]);
     measure_listen("warm", 32, 64, 1);
+    fill(4096, 32);
+    measure_copy("warm", 4096, 32);
+    measure_confirm("warm", 4096, 32, 0, LAMIPEONGA_DONE);
 
     emissions(4096);
     readings(4096);
+    copies(4096);
+    confirmations(4096);
     inspections(4096);
     creations();
     swaps(65536);

@@ -1,5 +1,5 @@
 # cases and counts (two lines to a case: the archive's, plain C's) as the tables of docs/BENCHMARK.md.
-# before: other counts of the same cases, of which the archive's get columns of their own; or empty.
+# before: other counts of the same cases, of which the archive's get columns of their own, with `-` for a call that there wasn't; or empty.
 BEGIN {
     names = (before == "" ? "" : "before, ") "archive, plain C"
     columns = split(names, who, ", ")
@@ -20,8 +20,10 @@ $1 == "beside record" { take(FNR, inspection); next }
         head(kind)
     shown = kind
     row = sprintf("| %s | %s | %s | %.2f |", group, $2, each("%d", now, nothing, 1, " | "), now[columns - 1] / now[columns])
-    if (kind == "emit" || kind == "read")
+    if (kind == "emit" || kind == "read" || kind == "copy")
         event()
+    else if (kind == "confirm")
+        print row
     else if (kind == "inspect")
         inspect()
     else if (kind == "create" || kind == "swap")
@@ -55,7 +57,7 @@ function keep(into,    i) {
 # a figure for each column: what `more` has beyond `less`, by `by`
 function each(form, more, less, by, separator,    i, text) {
     for (i = 1; i <= columns; i++)
-        text = text (i == 1 ? "" : separator) sprintf(form, (more[i] - less[i]) / by)
+        text = text (i == 1 ? "" : separator) (more[i] == "-" ? "-" : sprintf(form, (more[i] - less[i]) / by))
     return text
 }
 
@@ -81,8 +83,10 @@ function print_head(line) {
 
 function head(kind,    first) {
     first = "| Call | On |" (before == "" ? "" : " Before |") " Archive | Plain C | Ratio |"
-    if (kind == "emit" || kind == "read")
+    if (kind == "emit" || kind == "read" || kind == "copy")
         print_head(first titles("per byte of the event", "per byte") " events passed or looked at |")
+    else if (kind == "confirm")
+        print_head(first)
     else if (kind == "create" || kind == "swap")
         print_head(first titles("per kilobyte made", "per kilobyte"))
     else if (kind == "record")

@@ -10,7 +10,7 @@ use Rattle.table_rules.specs.Refusals.{paperNumber, paperValues, paperName}
 use Rattle.table_rules.specs.declared.Damage.{Damage}
 use Rattle.table_rules.specs.declared.Refusal.{Refusal}
 use Rattle.table_rules.specs.declared.Refusal.the-variants.{Damaged}
-use Rattle.table_rules.proofs.Numbers.{named-number}
+use Rattle.table_rules.proofs.Numbers.{named-number, never-twelve}
 use Rattle.console_rules.specs.Console.{callNumber, HeaderNumbers}
 
 -- in place of 10, 100 and the reason
@@ -40,10 +40,11 @@ header-numbers =
       dropped = refl;
       wake = refl;
       refused =
-          λ damage n low high other.
-          let named = named-number damage n low high in
-          let told : callNumber (paperName damage n) ≡ n = told-by-number (paperName damage n) (λ e. other (omega (arith, named, e))) ∙ named in
+          λ damage n low high not-ten not-twelve.
+          let named = named-number damage n low high not-twelve in
+          let told : callNumber (paperName damage n) ≡ n = told-by-number (paperName damage n) (λ e. not-ten (omega (arith, named, e))) ∙ named in
           (told, told, told);
       damaged = λ damage. (told-reason damage, told-reason damage);
       never-ten = λ r. told-by (λ n. n ≡ 10 → ⊥) r (λ n e. omega arith) (λ other. other);
+      never-twelve = λ r. told-by (λ n. n ≡ 12 → ⊥) r (λ n e. omega arith) (λ other. never-twelve r);
     }

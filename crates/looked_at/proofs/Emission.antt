@@ -9,9 +9,8 @@ use Rattle.table_rules.proofs.Laws.{cond-both, answers-both}
 use Rattle.page_rules.specs.Page.{pageOf, pageRows, onRing, positions}
 use Rattle.page_rules.specs.declared.Page.{Page}
 use Rattle.region_rules.specs.Region.{storeAt}
-use Rattle.event_rules.specs.Walk.{walkFrom}
-use Rattle.event_rules.specs.declared.Walk.{Walk}
-use Rattle.event_rules.specs.declared.Walk.the-variants as walks
+use Rattle.event_rules.specs.Walk.{Walk, walkFrom}
+use Rattle.event_rules.specs.Walk as walks
 use Rattle.look_rules.specs.Live.{live}
 use Rattle.writer_rules.specs.declared.Writer.{Writer}
 use Rattle.emit_rules.specs.Emit.{AfterEmit, refuse, writerRows, tooLarge, dropped, tooFar, disagrees, eventOf}
@@ -44,7 +43,6 @@ module _ {s t : List ℕ} (g : Agree s t) (w : Writer) where
       (rw (flag-same g), and-then one (notified-still (agree-still one g)))
 
   ended-agree : (p : Page) (event : List ℕ) (end : Walk) → Agreeing (ended s p w event end) (ended t p w event end)
-  ended-agree p event walks.NoRoom = refuse-agree refusal.NoRoom
   ended-agree p event (walks.Damaged damage) = refuse-agree (refusal.Damaged damage)
   ended-agree p event (walks.Room tail passed) =
       cond-both Agreeing (disagrees w passed) (refuse-agree refusal.Disagree) (acceptance-agree p event tail passed)

@@ -8,8 +8,7 @@ use lib.Seq.{drop-at}
 use Rattle.event_rules.specs.Event.{sequence}
 use Rattle.event_rules.specs.Run.{joined, Each}
 use Rattle.event_rules.proofs.Facts.{Whole}
-use Rattle.event_rules.specs.Walk.{walkFrom}
-use Rattle.event_rules.specs.declared.Walk.the-variants.{Room}
+use Rattle.event_rules.specs.Walk.{Room, walkFrom}
 use Rattle.event_rules.proofs.Made.{made-length, made-says}
 use Rattle.event_rules.proofs.Front.{made-one, length-joined, joined-append, joined-more}
 use Rattle.event_rules.proofs.Walks.{walk-whole}

@@ -28,7 +28,6 @@ known refusal.Spent low high = refl
 known refusal.Far low high = refl
 known (refusal.Damaged damage) low high = absurd (omega arith)
 known refusal.Disagree low high = absurd (omega arith)
-known refusal.NoRoom low high = absurd (omega arith)
 known refusal.Reader low high = absurd (omega arith)
 known refusal.Out low high = absurd (omega arith)
 known refusal.Generation low high = absurd (omega arith)

@@ -22,9 +22,8 @@ use Rattle.page_rules.specs.declared.Opened.the-variants as opens
 use Rattle.page_rules.proofs.Sound.{sound}
 use Rattle.event_rules.specs.Event.{eventSize, sequence, wellFormed, reasonOf}
 use Rattle.event_rules.specs.Run.{joined, passable, reasonAfter, damageAfter, Each, soundRun}
-use Rattle.event_rules.specs.Walk.{illAt, walkFrom}
-use Rattle.event_rules.specs.declared.Walk.{Walk}
-use Rattle.event_rules.specs.declared.Walk.the-variants as walks
+use Rattle.event_rules.specs.Walk.{Walk, illAt, walkFrom}
+use Rattle.event_rules.specs.Walk as walks
 use Rattle.event_rules.proofs.Facts.{Cut, aimed}
 use Rattle.event_rules.proofs.Runs.{afterRun, run-cut, cut-run}
 use Rattle.event_rules.proofs.Walks.{Ended, walk-ends, walk-damaged}
@@ -239,7 +238,6 @@ module _ (s : List ℕ) (p : Page) (is : opened s ≡ opens.Page p) (d : Damage)
     -- no other end of the walk says so
     ended-damaged : (x : Walk) → says (ended s p w (eventOf p w label payload) x) → x ≡ walks.Damaged d
     unfolding acceptance
-    ended-damaged walks.NoRoom q = differ (cc)
     ended-damaged (walks.Damaged damage) q = cc
     ended-damaged (walks.Room tail passed) q = by (disagrees w passed) q
       where
@@ -306,7 +304,7 @@ module _ (s : List ℕ) (p : Page) (is : opened s ≡ opens.Page p) (d : Damage)
         let ends : end ≡ walks.Damaged d =
         ap (λ (bs : List ℕ). walkFrom (aimed (p .«cpu_id») (p .capacity) size) bs (p .«tail_pos») 0) (up .split)
         ∙ walk-damaged (p .«cpu_id») (p .capacity) size events (rest s p at) (up .each)
-        (omega (arith, up .below)) (omega (arith, up .below)) bad (p .«tail_pos») 0
+        (omega (arith, up .below)) bad (p .«tail_pos») 0
         ∙ ap (λ (n : ℕ). illAt (p .«cpu_id») n (rest s p at)) (place-is events up)
         ∙ ap (λ (n : ℕ). walks.Damaged (record { position = at; reason = reasonOf (p .«cpu_id») n (rest s p at) })) lengths
         ∙ ap (λ (n : ℕ). walks.Damaged (record { position = at; reason = n })) (sym why) in

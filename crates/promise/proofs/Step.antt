@@ -18,8 +18,7 @@ use Rattle.region_rules.specs.Region.{storeAt}
 use Rattle.region_rules.proofs.Storing.{store-below, store-number}
 use Rattle.event_rules.specs.Event.{eventBytes}
 use Rattle.event_rules.specs.Run.{joined}
-use Rattle.event_rules.specs.Walk.{walkFrom}
-use Rattle.event_rules.specs.declared.Walk.the-variants.{Room}
+use Rattle.event_rules.specs.Walk.{Room, walkFrom}
 use Rattle.event_rules.proofs.Facts.{aimed, heading}
 use Rattle.look_rules.specs.Live.{live}
 use Rattle.writer_rules.specs.Writer.{outstanding}

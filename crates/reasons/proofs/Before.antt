@@ -13,11 +13,10 @@ use Rattle.table_rules.specs.declared.Refusal.the-variants as refusal
 use Rattle.table_rules.proofs.Laws.{cond-both}
 use Rattle.page_rules.specs.Page.{pageOf, pageRows, onRing}
 use Rattle.page_rules.specs.declared.Page.{Page}
-use Rattle.event_rules.specs.Event.{eventSize, wellFormed}
+use Rattle.event_rules.specs.Event.{eventSize, wellFormed, reasonOf}
 use Rattle.event_rules.specs.Run.{passable, damageAfter}
-use Rattle.event_rules.specs.Walk.{Aim, walkUpTo, walkFrom}
-use Rattle.event_rules.specs.declared.Walk.{Walk}
-use Rattle.event_rules.specs.declared.Walk.the-variants as walks
+use Rattle.event_rules.specs.Walk.{Walk, Aim, walkUpTo, walkFrom}
+use Rattle.event_rules.specs.Walk as walks
 use Rattle.look_rules.specs.Live.{rest, live}
 use Rattle.writer_rules.specs.Writer.{wrongWriter}
 use Rattle.writer_rules.specs.declared.Writer.{Writer}
@@ -104,21 +103,23 @@ module _ (s : List ℕ) (p : Page) (w : Writer) (event : List ℕ) where
   abbrev left : Walk → AfterEmit
   left = ended s p w event
 
+  ends : (fits well : Bool) (tail passed : ℕ) (now before : Walk) (reason : ℕ) → ButForReason (refuse s w) (left now) (left before)
+      → ButForReason (refuse s w)
+      (left (cond fits (walks.Room tail passed) (cond well now (walks.Damaged (record { position = tail; reason = reason })))))
+      (left (cond fits (walks.Room tail passed) (cond well before (walks.Damaged (placeAlone tail)))))
+  ends true well tail passed now before reason h = same (refuse s w)
+  ends false true tail passed now before reason h = h
+  ends false false tail passed now before reason h = ten (refuse s w) (record { position = tail; reason = reason })
+
   walk-alike : (bytes : ℕ) (aim : Aim) (bs : List ℕ) (tail passed : ℕ)
       → ButForReason (refuse s w) (left (walkUpTo bytes aim bs tail passed)) (left (walkBefore bytes aim bs tail passed))
   unfolding walkUpTo walkBefore
-  walk-alike zero aim bs tail passed = same (refuse s w)
+  walk-alike zero aim bs tail passed =
+      let none = walks.Room tail passed in
+      ends (leb (length bs + aim .size) (aim .capacity)) false tail passed none none (reasonOf (aim .cpu) (length bs) bs) (same (refuse s w))
   walk-alike (suc bytes) aim bs tail passed =
-      by (leb (length bs + aim .size) (aim .capacity)) (eqb (length bs) 0) (wellFormed (aim .cpu) bs) _ _ _
+      ends (leb (length bs + aim .size) (aim .capacity)) (wellFormed (aim .cpu) bs) tail passed _ _ (reasonOf (aim .cpu) (length bs) bs)
       (walk-alike bytes aim (drop (eventSize bs) bs) (tail + eventSize bs) (passed + 1))
-    where
-      by : (fits none well : Bool) (now before : Walk) (damage : Damage) → ButForReason (refuse s w) (left now) (left before)
-          → ButForReason (refuse s w) (left (cond fits (walks.Room tail passed) (cond none walks.NoRoom (cond well now (walks.Damaged damage)))))
-          (left (cond fits (walks.Room tail passed) (cond none walks.NoRoom (cond well before (walks.Damaged (placeAlone (damage .position)))))))
-      by true none well now before damage h = same (refuse s w)
-      by false true well now before damage h = same (refuse s w)
-      by false false true now before damage h = h
-      by false false false now before damage h = ten (refuse s w) damage
 
 emit-alike : (s : List ℕ) (w : Writer) (label : Label) (payload : List ℕ)
     → ButForReason (refuse s w) (emission s w label payload) (emissionBefore s w label payload)

@@ -5,8 +5,8 @@ use lib.{ListN.length, ListN.drop, Dec.eqb, Dec.leb, Dec.ltb}
 use Rattle.table_rules.specs.{Table.first, declared.Damage.Damage, declared.Refusal.Refusal}
 use Rattle.table_rules.specs.declared.Refusal.the-variants as refusal
 use Rattle.page_rules.specs.{Page.onRing}
-use Rattle.event_rules.specs.{Event.eventSize, Event.wellFormed, Run.passable, Walk.Aim, declared.Walk.Walk}
-use Rattle.event_rules.specs.declared.Walk.the-variants as walks
+use Rattle.event_rules.specs.{Event.eventSize, Event.wellFormed, Run.passable, Walk.Aim, Walk.Walk}
+use Rattle.event_rules.specs.Walk as walks
 use Rattle.look_rules.specs.{Live.rest, Live.live}
 use Rattle.writer_rules.specs.{Writer.wrongWriter, declared.Writer.Writer}
 use Rattle.create_rules.specs.{Create.wrongSize}
@@ -72,11 +72,11 @@ readBefore s reader out =
     (untouched reader out) (handedOut reader out at bs)))))
 
 unfoldable pub walkBefore : ℕ → Aim → List ℕ → ℕ → ℕ → Walk
-walkBefore zero aim bs tail passed = cond (leb (length bs + aim .size) (aim .capacity)) (walks.Room tail passed) walks.NoRoom
+walkBefore zero aim bs tail passed = cond (leb (length bs + aim .size) (aim .capacity)) (walks.Room tail passed) (walks.Damaged (placeAlone tail))
 walkBefore (suc bytes) aim bs tail passed =
     let next = walkBefore bytes aim (drop (eventSize bs) bs) (tail + eventSize bs) (passed + 1) in
     cond (leb (length bs + aim .size) (aim .capacity)) (walks.Room tail passed)
-    (cond (eqb (length bs) 0) walks.NoRoom (cond (wellFormed (aim .cpu) bs) next (walks.Damaged (placeAlone tail))))
+    (cond (wellFormed (aim .cpu) bs) next (walks.Damaged (placeAlone tail)))
 
 unfoldable pub emissionBefore : List ℕ → Writer → Label → List ℕ → AfterEmit
 emissionBefore s w label payload =

@@ -17,8 +17,8 @@ use Rattle.page_rules.specs.Fresh.{blank}
 use Rattle.page_rules.specs.Wake.{needWake, wakes}
 use Rattle.event_rules.specs.Event.{eventSize}
 use Rattle.event_rules.specs.Run.{passable, damageAfter}
-use Rattle.event_rules.specs.declared.Walk.{Walk}
-use Rattle.event_rules.specs.declared.Walk.the-variants as walks
+use Rattle.event_rules.specs.Walk.{Walk}
+use Rattle.event_rules.specs.Walk as walks
 use Rattle.look_rules.specs.Live.{rest}
 use Rattle.writer_rules.specs.declared.Writer.{Writer}
 use Rattle.create_rules.specs.Create.{wrongSize, createRows, created, afterCreate}
@@ -107,7 +107,6 @@ module _ {A : Type 0} (say : Outcome → A) (other : (e : Outcome) → isRefused
       (walkTable w end (λ n. say (emits.Refused (paperName (walkDamage end) n))) ++ ((wakes (needWake s), say emits.Wake) ∷ (true, say emits.Done) ∷ []))
       (emit.ended s p w event end)
   unfolding emit.acceptance first
-  ended-fits p event walks.NoRoom = refuses emissions refusal.NoRoom
   ended-fits p event (walks.Damaged damage) = refuses emissions (refusal.Damaged damage)
   ended-fits p event (walks.Room tail passed) =
       asks emissions ((emit.disagrees w passed, refusal.Disagree) ∷ [])

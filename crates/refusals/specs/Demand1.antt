@@ -5,8 +5,8 @@ use mathlib.Core.{Path._≡_, Logic._↔_, Bool.Bool, Bool.true, Bool.not, Bool.
 use lib.{ListN.length, Dec.eqb, Dec.leb, Dec.ltb}
 use Rattle.table_rules.specs.{Table.Stops, Refusals.paperName, declared.Damage.Damage, declared.Refusal.Refusal}
 use Rattle.page_rules.specs.{Page.pageOf, Page.tooShort, Page.wrongMark, Page.wrongVersion, Page.wrongLayout, Page.wrongLength, Page.wrongPosition, Wake.needWake, Wake.wakes}
-use Rattle.event_rules.specs.{Event.eventSize, Run.passable, Run.damageAfter, declared.Walk.Walk}
-use Rattle.event_rules.specs.declared.Walk.the-variants as walks
+use Rattle.event_rules.specs.{Event.eventSize, Run.passable, Run.damageAfter, Walk.Walk}
+use Rattle.event_rules.specs.Walk as walks
 use Rattle.look_rules.specs.{Live.rest}
 use Rattle.writer_rules.specs.{Writer.wrongWriter, declared.Writer.Writer}
 use Rattle.create_rules.specs.{Create.wrongSize, Create.created, Create.afterCreate}
@@ -42,7 +42,6 @@ pageTable s refusal =
 
 -- how an emission's walk ended: the rows, and what 10 bears
 abbrev pub walkTable : {A : Type 0} → Writer → Walk → (ℕ → A) → List (Bool × A)
-walkTable w walks.NoRoom refusal = (true, refusal 12) ∷ []
 walkTable w (walks.Damaged damage) refusal = (true, refusal 10) ∷ []
 walkTable w (walks.Room tail passed) refusal = (disagrees w passed, refusal 11) ∷ []
 
@@ -51,7 +50,6 @@ abbrev pub noDamage : Damage
 noDamage = record { position = 0; reason = 0 }
 
 abbrev pub walkDamage : Walk → Damage
-walkDamage walks.NoRoom = noDamage
 walkDamage (walks.Damaged damage) = damage
 walkDamage (walks.Room tail passed) = noDamage
 

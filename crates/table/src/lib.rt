@@ -19,7 +19,6 @@ pub fn paper_number(refusal: Refusal) -> u8
         Refusal::Far => 9,
         Refusal::Damaged(_) => 10,
         Refusal::Disagree => 11,
-        Refusal::NoRoom => 12,
         Refusal::Reader => 13,
         Refusal::Out => 14,
         Refusal::Generation => 15,

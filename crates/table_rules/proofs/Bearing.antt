@@ -9,7 +9,7 @@ use Rattle.table_rules.specs.Refusals.{paperNumber, paperValues}
 use Rattle.table_rules.specs.declared.Damage.{Damage}
 use Rattle.table_rules.specs.declared.Refusal.{Refusal}
 use Rattle.table_rules.specs.declared.Refusal.the-variants.{Short, Magic, Version, Layout, Length, Position, Writer, Spent, Far, Damaged}
-use Rattle.table_rules.specs.declared.Refusal.the-variants.{Disagree, NoRoom, Reader, Out, Generation, Size, Record}
+use Rattle.table_rules.specs.declared.Refusal.the-variants.{Disagree, Reader, Out, Generation, Size, Record}
 use Rattle.table_rules.proofs.Refusal as refusal
 
 pub record Alone (r : Refusal) : Type 0 where
@@ -32,7 +32,6 @@ bearing Writer = alone Writer (record { bears = refl; not-ten = λ e. omega arit
 bearing Spent = alone Spent (record { bears = refl; not-ten = λ e. omega arith })
 bearing Far = alone Far (record { bears = refl; not-ten = λ e. omega arith })
 bearing Disagree = alone Disagree (record { bears = refl; not-ten = λ e. omega arith })
-bearing NoRoom = alone NoRoom (record { bears = refl; not-ten = λ e. omega arith })
 bearing Reader = alone Reader (record { bears = refl; not-ten = λ e. omega arith })
 bearing Out = alone Out (record { bears = refl; not-ten = λ e. omega arith })
 bearing Generation = alone Generation (record { bears = refl; not-ten = λ e. omega arith })
@@ -41,7 +40,7 @@ bearing Record = alone Record (record { bears = refl; not-ten = λ e. omega arit
 
 -- what the code's `else` knows: the variant isn't the tenth
 abbrev pub others : List ℕ
-others = 0 ∷ 1 ∷ 2 ∷ 3 ∷ 4 ∷ 5 ∷ 6 ∷ 7 ∷ 8 ∷ 10 ∷ 11 ∷ 12 ∷ 13 ∷ 14 ∷ 15 ∷ 16 ∷ []
+others = 0 ∷ 1 ∷ 2 ∷ 3 ∷ 4 ∷ 5 ∷ 6 ∷ 7 ∷ 8 ∷ 10 ∷ 11 ∷ 12 ∷ 13 ∷ 14 ∷ 15 ∷ []
 
 pub other-alone : (r : Refusal) → OneOf others (tagOf refusal.the-type r) → Alone r
 other-alone r other = by (bearing r) other

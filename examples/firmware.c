@@ -6,8 +6,8 @@
 
 #include <stdio.h>
 
-#if LAMIPEONGA_VERSION_MAJOR != 2
-#error "written for version 2 of lamipeonga.h"
+#if LAMIPEONGA_VERSION_MAJOR != 3
+#error "written for version 3 of lamipeonga.h"
 #endif
 
 #define CPU_ID 3

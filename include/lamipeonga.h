@@ -19,7 +19,7 @@
  *   - DONE: go on.
  *   - WAKE: the event is stored. Wake whoever waits at LAMIPEONGA_FUTEX_COUNTER_AT, which the call has moved already, and go on.
  *   - DROPPED: count it, report it and go on. The same event would be dropped again; the number that it used up shows readers the gap.
- *   - 1 to 17 without 10, and 101 to 107, refused: stop and report the number. No byte has changed, and the same call would be refused again.
+ *   - 1 to 17 without 10 and 12, and 101 to 107, refused: stop and report the number. No byte has changed, and the same call would be refused again.
  *       SHORT, LENGTH, SIZE, RECORD: look at the lengths passed first.
  *       MAGIC, VERSION, LAYOUT, POSITION, WRITER, DISAGREE and the seven DAMAGED: no ring was created here, the record is another ring's, or
  *       someone else wrote into ring or record.
@@ -43,16 +43,17 @@ extern "C" {
 
 /*
  * of this header: MAJOR goes up when a caller must be changed, MINOR when something is only added
+ *   3.0  LAMIPEONGA_NO_ROOM has gone: no call has ever answered 12, and none will
  *   2.0  101 to 107 in place of 10, which is never answered any more: whoever compared with LAMIPEONGA_DAMAGED now compares with these seven
  *   1.1  WAKE at every need_wake but 0; in 1.0 at 1 alone
  */
-#define LAMIPEONGA_VERSION_MAJOR 2
+#define LAMIPEONGA_VERSION_MAJOR 3
 #define LAMIPEONGA_VERSION_MINOR 0
 
 /* of a ring's bytes: the number at offset 8, 4 bytes; any other is refused, see LAMIPEONGA_VERSION below */
 #define LAMIPEONGA_FORMAT_VERSION 1
 
-/* what a call answers; a refusal (1 to 17 without 10, and 101 to 107) has changed no byte of any buffer */
+/* what a call answers; a refusal (1 to 17 without 10 and 12, and 101 to 107) has changed no byte of any buffer */
 enum lamipeonga_answer {
     LAMIPEONGA_DONE = 0,
 
@@ -71,8 +72,9 @@ enum lamipeonga_answer {
     /* 10 is never answered: 101 to 107 below say more */
     LAMIPEONGA_DISAGREE = 11, /* ring and record can't both be right: more events would be overwritten than the record says were stored */
 
+    /* 12 is unused, and stays so: it was NO ROOM, which an event that isn't dropped can't meet */
+
     /* never answered by the three calls below: they stand for the whole table */
-    LAMIPEONGA_NO_ROOM = 12,
     LAMIPEONGA_READER = 13,
     LAMIPEONGA_OUT = 14,
     LAMIPEONGA_GENERATION = 15,

@@ -97,7 +97,7 @@ void put_back(void)
 
 int is_refusal(uint32_t answer)
 {
-    return (answer >= 1 && answer <= 17) || (answer >= 101 && answer <= 107);
+    return (answer >= 1 && answer <= 17 && answer != 10 && answer != 12) || (answer >= 101 && answer <= 107);
 }
 
 static void begin(void)

@@ -37,7 +37,7 @@ void set_record(size_t at, uint64_t value);
 
 uint64_t number_at(const uint8_t *bytes, int width);
 
-/* Whether a number is a refusal: 1 to 17, or 101 to 107, which stand in place of 10. */
+/* Whether a number is a refusal: 1 to 17 without 10 and 12, or 101 to 107. These stand in place of 10, and 12 isn't used. */
 int is_refusal(uint32_t answer);
 
 /* All of both pairs kept, and put back. */

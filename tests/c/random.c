@@ -269,6 +269,7 @@ unsigned long run_random(unsigned long wanted)
         pool[i] = (uint8_t)(below(4) ? (i % 32 == 0 || i % 32 == 4) * 32 : next());
     while (calls - start < wanted)
         history();
+    /* no other may come: 12, which isn't used, 10, and 13 to 15 of calls that C doesn't make */
     for (unsigned number = 0; number < ANSWERS; number++) {
         int can = number <= 9 || number == 11 || number == 16 || number == 17 || number == 20 || number == 21
             || (number >= LAMIPEONGA_DAMAGED_LEFT && number <= LAMIPEONGA_DAMAGED_SEQUENCE);

@@ -9,7 +9,7 @@ type Counts = BTreeMap<(String, String), usize>;
 
 pub fn print(folder: &Path) -> Result<(), String> {
     let counts = stored_counts(folder)?;
-    for number in 1..=16 {
+    for number in refusal_numbers() {
         println!("{}: {}", refused(number), refusals(&counts, number));
     }
     println!("\ncommand: answer count, ..");
@@ -71,6 +71,11 @@ fn kind(line: &[u8], answer: &[u8]) -> String {
     }
 }
 
+/// Those that a script's line can be refused with. Number 12 isn't used, and 17 is given by the C call alone.
+fn refusal_numbers() -> impl Iterator<Item = u8> {
+    (1..=11).chain(13..=16)
+}
+
 /// Padded, so that refusals sort by number.
 fn refused(number: u8) -> String {
     format!("refused {number:>2}")
@@ -101,10 +106,19 @@ mod tests {
     use super::*;
 
     #[test]
-    fn each_refusal_that_can_occur_is_stored_often() {
+    fn each_refusal_is_stored_often() {
         let counts = stored_counts(Path::new("stored")).unwrap();
-        for number in (1..=16).filter(|number| *number != 12) {
+        for number in refusal_numbers() {
             assert!(refusals(&counts, number) >= 50, "number {number}");
+        }
+    }
+
+    #[test]
+    fn no_other_refusal_is_stored() {
+        let counts = stored_counts(Path::new("stored")).unwrap();
+        let known: Vec<String> = refusal_numbers().map(refused).collect();
+        for (command, answer) in counts.keys().filter(|(_, answer)| answer.starts_with("refused")) {
+            assert!(known.contains(answer), "{command}: {answer}");
         }
     }
 }

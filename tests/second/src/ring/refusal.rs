@@ -2,7 +2,8 @@
 
 use super::Reason;
 
-/// Number 17 has no case here: it is given by the C call alone.
+/// Number 17 has no case here: it is given by the C call alone. Number 12 has none since change request K7 took NO ROOM out, and
+/// isn't used again.
 #[derive(Clone, Copy, Debug, PartialEq, Eq)]
 pub enum Refusal {
     Short,
@@ -20,7 +21,6 @@ pub enum Refusal {
         why: Reason,
     },
     Disagree,
-    NoRoom,
     Reader,
     Out,
     Generation,
@@ -41,7 +41,6 @@ impl Refusal {
             Refusal::Far => 9,
             Refusal::Damaged { .. } => 10,
             Refusal::Disagree => 11,
-            Refusal::NoRoom => 12,
             Refusal::Reader => 13,
             Refusal::Out => 14,
             Refusal::Generation => 15,
@@ -49,3 +48,6 @@ impl Refusal {
         }
     }
 }
+
+#[cfg(test)]
+mod tests;

@@ -62,10 +62,10 @@ unfolding tooLarge
 within p size e = omega (arith, ltb-false (p .capacity / 2) size e)
 
 pub no-room-never : NoRoomNever
-no-room-never s p h =
+no-room-never =
     record {
-      emit = λ size kept. never _ (within p size kept) (live s p) (p .«tail_pos») 0;
-      swap = λ new. never _ (omega arith) (live s p) (p .«tail_pos») 0;
+      emit = λ s p h size kept. never _ (within p size kept) (live s p) (p .«tail_pos») 0;
+      swap = λ s p h new. never _ (omega arith) (live s p) (p .«tail_pos») 0;
     }
 
 -- ---- the emission

@@ -10,16 +10,13 @@ use Rattle.emit_rules.specs.{Emit.tooLarge, Emit.emission, declared.Label.Label
 use Rattle.no_room.specs.{Former.noRoom, Former.formerWalk, Former.leaves, Former.formerEmission}
 
 -- of every ring that passes 1 to 6
-pub record NeverNoRoom (s : List ℕ) (p : Page) : Type 0 where
+pub record NoRoomNever : Type 0 where
   -- and every event that isn't dropped: the walk of its emission
-  pub emit : (size : ℕ) → tooLarge p size ≡ false
+  pub emit : (s : List ℕ) (p : Page) → opened s ≡ opensPage p → (size : ℕ) → tooLarge p size ≡ false
       → formerWalk (record { cpu = p .«cpu_id»; capacity = p .capacity; size = size }) (live s p) (p .«tail_pos») 0 ≡ noRoom → ⊥
   -- and every buffer for a new ring: the walk of a swap to it, which asks for room for nothing
-  pub swap : (new : List ℕ)
+  pub swap : (s : List ℕ) (p : Page) → opened s ≡ opensPage p → (new : List ℕ)
       → formerWalk (record { cpu = p .«cpu_id»; capacity = length new - 8192; size = 0 }) (live s p) (p .«tail_pos») 0 ≡ noRoom → ⊥
-
-abbrev pub NoRoomNever : Type 0
-NoRoomNever = (s : List ℕ) (p : Page) → opened s ≡ opensPage p → NeverNoRoom s p
 
 -- of any bytes and any numbers: the answer, the record handed back, and each byte of the ring
 abbrev pub SameEmission : Type 0

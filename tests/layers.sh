@@ -24,7 +24,7 @@ while read -r line; do
         [ ! -d "crates/$crate" ] || [[ $above == *" $crate "* ]] || fail "$name stands on $crate, which isn't above it"
     done
     case $name in
-    *_rules | history | promise | reasons | no_room | firmware | comparison | recordings | beside | faultless | cuts | proved_sums | refusals | worked_bytes | worked_slips | looked_at)
+    *_rules | history | promise | reasons | no_room | firmware | comparison | recordings | passing | beside | faultless | cuts | proved_sums | refusals | worked_bytes | worked_slips | worked_verdicts | looked_at)
         has_function "$name" && fail "$name has a function"
         for crate in $below; do
             [[ $apart == *" $crate "* ]] || fail "$name stands on $crate, which is neither rules nor a promise"
@@ -35,7 +35,7 @@ while read -r line; do
     above="$above$name "
 done <crates.txt
 
-for name in history promise reasons no_room firmware comparison recordings beside faultless cuts proved_sums refusals worked_bytes worked_slips looked_at; do
+for name in history promise reasons no_room firmware comparison recordings passing beside faultless cuts proved_sums refusals worked_bytes worked_slips worked_verdicts looked_at; do
     [[ $apart == *" $name "* ]] || fail "there is no crate $name"
 done
 if [ "$failed" -ne 0 ]; then

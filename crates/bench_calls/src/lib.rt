@@ -1,4 +1,4 @@
-// RULES 8.2: the firmware has no such calls. Reading, the swap and the recording as C can call them, for the measurement in bench/ alone.
+// RULES 8.2: the firmware has no such calls. Reading, the swap, the recording and its check as C can call them, for the measurement in bench/ alone.
 // Records lie in bytes as the firmware's calls have them. What the firmware's calls have no number for gets one of this crate's own, 1,000 or above.
 use crate::reader_bytes::keep_reader;
 use crate::reader_bytes::reader_at;
@@ -16,6 +16,7 @@ ghost use Prim.Native.Nat.{ℕ, _≤_};
 ghost use Rattle.recording_rules.specs.declared.Recorded.the-variants.{Placed};
 ghost use Rattle.bench_calls.specs.Calls.{answerNumber, readAnswer, sameOutcome, recordedNumber, readCall, swapCall, recordCall};
 
+pub mod checking;
 pub mod reader_bytes;
 
 pub enum BenchAnswer {

@@ -17,6 +17,7 @@ fn main() {
     let kind = replied.kind;
     let ended = match kind {
         Kind::Wanted => Ended::Good,
+        Kind::Other => Ended::Other,
         Kind::Hindrance => Ended::Other,
     };
     io::write_all(STATUS_FILENO, &digit(ended));

@@ -17,7 +17,7 @@ use Rattle.emit_rules.specs.declared.Emitted.{Emitted}
 use Rattle.console_rules.specs.Console.{emittedNumber, recordOf, recordAfter, Called, refusedCall, recordRows, emitCall}
 use Rattle.looked_at.specs.LookedAt.{Agree, AgreeStill, MadeAlike, LookedAt}
 use Rattle.looked_at.proofs.Writes.{unwritten}
-use Rattle.looked_at.proofs.Looks.{inspected-same, attached-same, read-same, copied-same, followed-same, recorded-same}
+use Rattle.looked_at.proofs.Looks.{inspected-same, attached-same, read-same, copied-same, followed-same, recorded-same, verified-same}
 use Rattle.looked_at.proofs.Confirm.{confirmed-same}
 use Rattle.looked_at.proofs.Emission.{emission-agree}
 use Rattle.looked_at.proofs.Swap.{exchange-agree}
@@ -65,5 +65,6 @@ looked-at s t =
       follow = λ g reader. followed-same g reader;
       swap = λ g new new′ long w. exchange-agree g new new′ long w;
       recording = λ g placed out. recorded-same g placed out;
+      verify = λ g file. verified-same g file;
       emitC = call-agree s t;
     }

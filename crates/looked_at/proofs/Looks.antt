@@ -18,6 +18,7 @@ use Rattle.reader_rules.specs.declared.Reader.{Reader}
 use Rattle.slip_rules.specs.Copy.{copyOut}
 use Rattle.follow_rules.specs.Follow.{onward, followRows, followedOn, followed}
 use Rattle.recording_rules.specs.Recording.{recordingOf, beyondEnd, recordingRows, recordedOn, recorded}
+use Rattle.verification_rules.specs.Verify.{verifiedOn, verified}
 use Rattle.looked_at.specs.LookedAt.{Agree}
 
 module _ {s t : List ℕ} (g : Agree s t) where
@@ -75,3 +76,7 @@ module _ {s t : List ℕ} (g : Agree s t) where
   pub recorded-same : (placed : ℕ) (out : List ℕ) → recorded t placed out ≡ recorded s placed out
   unfolding onRing recorded recordedOn recordingRows beyondEnd damaged
   recorded-same placed out = rw (rows-same, page-same, surveyed-same (pageOf s), damage-same (pageOf s), recording-same)
+
+  pub verified-same : (file : List ℕ) → verified t file ≡ verified s file
+  unfolding onRing verified verifiedOn damaged
+  verified-same file = rw (rows-same, page-same, surveyed-same (pageOf s), damage-same (pageOf s), recording-same)

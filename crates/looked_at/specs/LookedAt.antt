@@ -13,6 +13,7 @@ use Rattle.slip_rules.specs.{Copy.copyOut, Confirm.confirmed, declared.Slip.Sli
 use Rattle.follow_rules.specs.{Follow.followed}
 use Rattle.swap_rules.specs.{Swap.refusedSwap, Swap.exchange}
 use Rattle.recording_rules.specs.{Recording.recorded}
+use Rattle.verification_rules.specs.{Verify.verified}
 use Rattle.console_rules.specs.{Console.emitCall}
 
 -- 2.3, 2.4: the bytes that count: the first 192, need_wake, and the data
@@ -61,6 +62,7 @@ pub record LookedAt (s t : List ℕ) : Type 0 where
       × MadeAlike (λ r. exchange s new w .answer ≡ refusedSwap r w) new new′ (exchange s new w .new) (exchange t new′ w .new)
   -- the output buffer too
   pub recording : Agree s t → (placed : ℕ) (out : List ℕ) → recorded t placed out ≡ recorded s placed out
+  pub verify : Agree s t → (file : List ℕ) → verified t file ≡ verified s file
   -- of C calls; those for create and inspect give the numbers of the answers above
   pub emitC : Agree s t → (bytes : List ℕ) (timestamp type class : ℕ) (payload : List ℕ)
       → (emitCall t bytes timestamp type class payload .answer ≡ emitCall s bytes timestamp type class payload .answer)

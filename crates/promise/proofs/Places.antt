@@ -62,6 +62,7 @@ use Rattle.follow_rules.proofs.Cases as followCases
 use Rattle.recording_rules.specs.Recording.{AfterRecord, notRecorded, recordingRows, recordedOn, recorded}
 use Rattle.recording_rules.specs.declared.Recorded.the-variants as records
 use Rattle.recording_rules.proofs.Cases.{recorded-on}
+use Rattle.verification_rules.proofs.Cases.{refused-there}
 use Rattle.swap_rules.specs.Swap.{AfterSwap, swapRows, exchanging, carriedOver, exchangeOn, exchange}
 use Rattle.swap_rules.specs.Swap.{refuseSwap as swapRefuse}
 use Rattle.swap_rules.specs.declared.SwapOutcome.the-variants as swaps
@@ -387,6 +388,7 @@ places s p is d = record {
   swap = swaps-there s p is d;
   follow = follows-there s p is d;
   recording = records-there s p is d;
+  verify = λ file. refused-there s file;
   emit = λ w label payload. (
     λ e. let r = emit-stuck s p is d w label payload e in (r .0, r .1, r .2, r .3, omega (arith, r .4), r .5, r .6),
     λ r. emits-there s p is d w label payload (r .0, r .1, r .2, r .3, omega (arith, r .4), r .5, r .6),

@@ -16,6 +16,7 @@ use Rattle.slip_rules.specs.{Copy.copyOut, declared.Copying.the-variants.Refuse
 use Rattle.follow_rules.specs.{Follow.followed}
 use Rattle.swap_rules.specs.{Swap.exchange, declared.SwapOutcome.the-variants.Refused as swapsRefused}
 use Rattle.recording_rules.specs.{Recording.recorded, declared.Recorded.the-variants.Refused as recordsRefused}
+use Rattle.verification_rules.specs.{Verify.verified, declared.Verified.the-variants.Refused as verifiesRefused}
 use Rattle.promise.specs.{Demand2.Acceptable}
 
 -- well-formed events lie from tail up to a place below write_pos
@@ -30,10 +31,11 @@ pub record PlaceOf (s : List ℕ) (p : Page) (d : Damage) : Type 0 where
       ↔ ((events : List (List ℕ)) × UpTo s p events (d .position) × Rising sequence 0 events
       × (passable (p .«cpu_id») (lastOf sequence 0 events) (rest s p (d .position)) ≡ false)
       × (d .reason ≡ reasonAfter (p .«cpu_id») (lastOf sequence 0 events) (rest s p (d .position))))
-  -- 7.8, 7.6, 10.4: by a whole inspection
+  -- 7.8, 7.6, 10.4, 10.8: by a whole inspection
   pub swap : (t : List ℕ) (w : Writer) → exchange s t w .answer .outcome ≡ swapsRefused (Damaged d) → inspected s ≡ inspectsRefused (Damaged d)
   pub follow : (reader : Reader) → followed s reader .answer ≡ attachesRefused (Damaged d) → inspected s ≡ inspectsRefused (Damaged d)
   pub recording : (placed : ℕ) (out : List ℕ) → recorded s placed out .answer ≡ recordsRefused (Damaged d) → inspected s ≡ inspectsRefused (Damaged d)
+  pub verify : (file : List ℕ) → verified s file ≡ verifiesRefused (Damaged d) → inspected s ≡ inspectsRefused (Damaged d)
   -- 6.5: the walk comes to the place with still too little room, and no sequence counts
   pub emit : (w : Writer) (label : Label) (payload : List ℕ) → (emission s w label payload .answer .outcome ≡ emitsRefused (Damaged d))
       ↔ ((wrongWriter w ≡ false) × Acceptable (p .capacity) (w .last) (p .«write_pos») (32 + length payload)

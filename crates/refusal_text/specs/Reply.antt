@@ -3,7 +3,7 @@ use Prim.Native.Nat.{ℕ}
 use mathlib.Core.{Path._≡_, List.List}
 use Rattle.text.specs.{Put.Front}
 use Rattle.refusal_text.specs.{declared.Kind.Kind, declared.Replied.Replied}
-use Rattle.refusal_text.specs.declared.Kind.the-variants.{Wanted, Hindrance}
+use Rattle.refusal_text.specs.declared.Kind.the-variants.{Wanted, Other, Hindrance}
 
 pub record Reply : Type 0 where
   pub kind : Kind
@@ -11,6 +11,9 @@ pub record Reply : Type 0 where
 
 abbrev pub wanted : List ℕ → Reply
 wanted bytes = record { kind = Wanted; bytes = bytes }
+
+abbrev pub other : List ℕ → Reply
+other bytes = record { kind = Other; bytes = bytes }
 
 abbrev pub hindrance : List ℕ → Reply
 hindrance line = record { kind = Hindrance; bytes = line }

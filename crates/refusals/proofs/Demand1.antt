@@ -53,6 +53,9 @@ use Rattle.swap_rules.specs.declared.SwapOutcome.{SwapOutcome}
 use Rattle.swap_rules.specs.declared.SwapOutcome.the-variants as swaps
 use Rattle.recording_rules.specs.Recording.{AfterRecord, notRecorded, beyondEnd, recordingRows, recordedOn, recorded}
 use Rattle.recording_rules.specs.declared.Recorded.{Recorded}
+use Rattle.verification_rules.specs.Verify.{verifiedOn, verified}
+use Rattle.verification_rules.specs.declared.Verified.{Verified}
+use Rattle.verification_rules.specs.declared.Verified.the-variants as verifies
 use Rattle.console_rules.specs.Console.{callNumber, createdNumber, inspectedNumber, emittedNumber, isRefused, recordOf, recordAfter}
 use Rattle.console_rules.specs.Console.{Called, refusedCall, recordRows, emitCall}
 use Rattle.console_rules.proofs.Header.{told-by}
@@ -206,7 +209,7 @@ exchanged false = refl
 
 pub demand1 : Demand1
 unfolding onRing attached readOut ending copyOut copyEnding confirmed confirmOpened followed followedOn followRows exchange exchangeOn swapRows carriedOver
-    recorded recordedOn recordingRows beyondEnd pageRows emitCall recordRows recordAfter
+    recorded recordedOn recordingRows beyondEnd verified verifiedOn pageRows emitCall recordRows recordAfter
 demand1 =
     record {
       create = create-asked (λ x. x) (λ r e. let z : _≡_ {A = ℕ} 0 1 = cc in omega arith);
@@ -283,6 +286,12 @@ demand1 =
           asked o
           (asks o (pageRows s)
           (asks o (recordingRows s (pageOf s) placed) (says o refl (λ r e. let z : _≡_ {A = ℕ} 0 1 = cc in omega arith))));
+      verify =
+          λ s file.
+          let o : Outcomes Verified Verified = record { answer = λ x. x; refuse = verifies.Refused; as-came = λ x. Unit {0}; keep = λ r. tt } in
+          asked o
+          (asks o (pageRows s)
+          (asks o (inspectionRow s (pageOf s) ∷ []) (says o refl (λ r e. let z : _≡_ {A = ℕ} 0 1 = cc in omega arith))));
       create-call = create-asked createdNumber (free 0 (omega arith) (λ e. omega arith));
       emit-call =
           λ s bytes timestamp type class payload.

@@ -1,4 +1,4 @@
--- RULES 5.1, 5.2, 6.3, 10.4: demand 1, of any bytes and any numbers: a refusal comes in its turn, where its condition holds and nowhere else, and changes
+-- RULES 5.1, 5.2, 6.3, 10.4, 10.8: demand 1, of any bytes and any numbers: a refusal comes in its turn, where its condition holds and nowhere else, and changes
 -- nothing. A table holds an operation's questions in their order, each with its answer, and in the last row what is left to answer.
 use Prim.Native.Nat.{ℕ, _+_, _-_, _^_}
 use mathlib.Core.{Path._≡_, Logic._↔_, Bool.Bool, Bool.true, Bool.not, Bool._&&_, List.List, List.[], List._∷_, List._++_}
@@ -26,6 +26,9 @@ use Rattle.swap_rules.specs.{Swap.lastGeneration, Swap.countDiffers, Swap.excha
 use Rattle.swap_rules.specs.declared.SwapOutcome.the-variants as swaps
 use Rattle.recording_rules.specs.{Recording.recordingOf, Recording.piece, Recording.recorded}
 use Rattle.recording_rules.specs.declared.Recorded.the-variants as records
+use Rattle.difference_rules.specs.{Difference.firstDifference}
+use Rattle.verification_rules.specs.{Verify.verified}
+use Rattle.verification_rules.specs.declared.Verified.the-variants.{Compared as verifiesCompared, Refused as verifiesRefused}
 use Rattle.console_rules.specs.{Console.callNumber, Console.createdNumber, Console.inspectedNumber, Console.recordOf, Console.emitCall}
 
 -- of a call: `refused` is its answer to a refusal, 10 bearing `damage`; `unchanged` says that all it was lent to change is as it came
@@ -64,7 +67,7 @@ emitTable s w size dropped wake done refusal =
 abbrev pub inspectTable : {A : Type 0} → List ℕ → A → (ℕ → A) → List (Bool × A)
 inspectTable s whole refusal = pageTable s refusal ++ ((damaged s (pageOf s), refusal 10) ∷ (true, whole) ∷ [])
 
--- all but creation, emission and swap are lent the ring to be read only, and an inspection is lent nothing else
+-- all but creation, emission and swap are lent the ring to be read only; an inspection is lent nothing else, and a check nothing but a file to be read
 pub record Demand1 : Type 0 where
   pub create : (cpu : ℕ) (s : List ℕ)
       → Asked createsRefused noDamage (λ refusal. (wrongSize s, refusal 16) ∷ (true, createsDone) ∷ []) (created s) (afterCreate cpu s ≡ s)
@@ -145,6 +148,8 @@ pub record Demand1 : Type 0 where
       ++ ((damaged s p, refusal 10) ∷ (ltb (length (recordingOf s)) placed, refusal 13)
       ∷ (true, records.Placed (length (piece (recordingOf s) placed (length out)))) ∷ []))
       (after .answer) (after .out ≡ out)
+  pub verify : (s file : List ℕ)
+      → Asked verifiesRefused (damageFound s (pageOf s)) (inspectTable s (verifiesCompared (firstDifference (recordingOf s) file))) (verified s file) (Unit {0})
   -- the calls of C, answered by number
   pub create-call : (cpu : ℕ) (s : List ℕ)
       → Asked callNumber noDamage (λ refusal. (wrongSize s, refusal 16) ∷ (true, 0) ∷ []) (createdNumber (created s)) (afterCreate cpu s ≡ s)

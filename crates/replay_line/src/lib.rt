@@ -60,7 +60,7 @@ fn on_records(
             state
         }
         Command::Size => on_size(line, state, first, second, third, fourth),
-        Command::Swap => on_two(line, state, first, second, third, fourth),
+        Command::Pair(word) => on_two(word, line, state, first, second, third, fourth),
         _ => on_one(found, line, state, first, second, third, fourth, out),
     }
 }

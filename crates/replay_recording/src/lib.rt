@@ -1,4 +1,5 @@
-// The call that records a ring: its function reads the line's fields, makes the call and says its answer.
+// The calls that record a ring and check a recording: each function reads the line's fields, makes the call and says its answer.
+use difference_rules::Difference;
 use recording_rules::Recorded;
 use replay_state::say;
 use replay_state::state::State;
@@ -7,6 +8,7 @@ use script::Parsed;
 use script::field::field;
 use script::number::number;
 use script::number::number_to;
+use verification_rules::Verified;
 ghost use mathlib.Core.Path.{_≡_};
 
 // The bytes put stand at the front of the output buffer, and there are never more of them than it has.
@@ -39,4 +41,20 @@ pub fn record(line: &[u8], state: State, ring: &[u8], out: &mut [u8]) -> State
     let answer = recording::record(ring, placed, &mut out[0..n]);
     piece(answer, out);
     state
+}
+
+fn comparison(difference: Difference) {
+    match difference {
+        Difference::Same => say::words(b"same"),
+        Difference::At(place) => say::number(b"differs at ", place),
+    }
+}
+
+// The line has no further field, and there is no record.
+pub fn verify(ring: &[u8], file: &[u8]) {
+    match verification::verify(ring, file) {
+        Verified::Compared(difference) => comparison(difference),
+        Verified::Refused(refused) => say::refusal(refused),
+    }
+    say::words(b"\n");
 }

@@ -1,12 +1,21 @@
 // A line on two buffers, taken to the two that it names.
 use replay_state::state::State;
 use replay_state::state::unknown;
+use replay_words::Pair;
 use script::field::field;
 use script::number::number_to;
 ghost use mathlib.Core.Path.{_≡_};
 ghost use Prim.Native.Nat.{_≤_};
 
-fn on_pair(line: &[u8], state: State, b: usize, c: usize, old: &mut [u8], new: &mut [u8]) -> State
+fn on_pair(
+    word: Pair,
+    line: &[u8],
+    state: State,
+    b: usize,
+    c: usize,
+    old: &mut [u8],
+    new: &mut [u8],
+) -> State
     requires { ⌜ (b ≤ 3) × (c ≤ 3) ⌝ }
     ensures { λ r. ⌜ (r .lengths ≡ state .lengths) × (r .readers ≡ state .readers) × (r .slips ≡ state .slips) ⌝ }
 {
@@ -18,11 +27,18 @@ fn on_pair(line: &[u8], state: State, b: usize, c: usize, old: &mut [u8], new: &
     if to > new.len() {
         return unknown(state);
     }
-    replay_writing::swap(line, state, &mut old[0..from], &mut new[0..to])
+    match word {
+        Pair::Swap => replay_writing::swap(line, state, &mut old[0..from], &mut new[0..to]),
+        Pair::Verify => {
+            replay_recording::verify(&old[0..from], &new[0..to]);
+            state
+        }
+    }
 }
 
 // From buffer b to one of the three others, whose numbers are i, j and k; `to` is b itself or no buffer where it is none of them.
 fn on_others(
+    word: Pair,
     line: &[u8],
     state: State,
     b: usize,
@@ -39,18 +55,19 @@ fn on_others(
 {
     let to = number_to(field(line, 2), 3);
     if to == i {
-        return on_pair(line, state, b, i, old, x);
+        return on_pair(word, line, state, b, i, old, x);
     }
     if to == j {
-        return on_pair(line, state, b, j, old, y);
+        return on_pair(word, line, state, b, j, old, y);
     }
     if to == k {
-        return on_pair(line, state, b, k, old, z);
+        return on_pair(word, line, state, b, k, old, z);
     }
     unknown(state)
 }
 
 pub fn on_two(
+    word: Pair,
     line: &[u8],
     state: State,
     first: &mut [u8],
@@ -61,10 +78,10 @@ pub fn on_two(
     ensures { λ r. ⌜ (r .lengths ≡ state .lengths) × (r .readers ≡ state .readers) × (r .slips ≡ state .slips) ⌝ }
 {
     match number_to(field(line, 1), 3) {
-        0 => on_others(line, state, 0, 1, 2, 3, first, second, third, fourth),
-        1 => on_others(line, state, 1, 0, 2, 3, second, first, third, fourth),
-        2 => on_others(line, state, 2, 0, 1, 3, third, first, second, fourth),
-        3 => on_others(line, state, 3, 0, 1, 2, fourth, first, second, third),
+        0 => on_others(word, line, state, 0, 1, 2, 3, first, second, third, fourth),
+        1 => on_others(word, line, state, 1, 0, 2, 3, second, first, third, fourth),
+        2 => on_others(word, line, state, 2, 0, 1, 3, third, first, second, fourth),
+        3 => on_others(word, line, state, 3, 0, 1, 2, fourth, first, second, third),
         _ => unknown(state),
     }
 }

@@ -28,6 +28,12 @@ pub enum Looking {
     Confirm,
 }
 
+// A line on two buffers.
+pub enum Pair {
+    Swap,
+    Verify,
+}
+
 // A line on the listener.
 pub enum Serial {
     Fresh,
@@ -41,7 +47,7 @@ pub enum Command {
     Writer,
     Reader,
     Slip,
-    Swap,
+    Pair(Pair),
     Changing(Changing),
     Looking(Looking),
     Serial(Serial),
@@ -136,7 +142,10 @@ fn other_word(word: &[u8], fields: usize) -> Command {
         return Command::Slip;
     }
     if begins(word, fields, b"swap", 4) {
-        return Command::Swap;
+        return Command::Pair(Pair::Swap);
+    }
+    if begins(word, fields, b"verify", 3) {
+        return Command::Pair(Pair::Verify);
     }
     Command::Unknown
 }

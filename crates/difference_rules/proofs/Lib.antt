@@ -1,0 +1,4 @@
+pub mod Facts
+pub mod First
+pub mod Agreeing
+pub mod Three

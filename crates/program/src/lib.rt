@@ -1,0 +1,3 @@
+// What programs share.
+pub mod reply;
+pub mod room;

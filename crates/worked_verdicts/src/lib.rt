@@ -1,0 +1,1 @@
+// RULES 10.8, 10.9: recordings checked by hand.

@@ -1,5 +1,6 @@
 #!/usr/bin/env bash
 # ./ring NAME [FILE]: runs the program NAME on FILE or else on standard input, as in `./ring listing examples/start.ring`. Works from any folder.
+# ./ring verify RING RECORDING: the one program that takes two; `-` for one of them is standard input.
 # It is proved and built first where that hasn't been done since the code last changed; what is said of that goes to standard error.
 # Status (RULES 8.10): 0 where the program has given the good answer, 1 where it has given the other one or none; 2 where it was used wrongly, couldn't be
 # run, or a file couldn't be read or written; 141 where whoever reads its output has had enough.
@@ -17,21 +18,25 @@ is_program() { [[ $1 != */* ]] && [ -f "$root/crates/$1/src/main.rt" ]; }
 # a program that reads has the file `stdin`, which rt gives to it when it tries it
 takes_file() { [ -f "$root/crates/$1/stdin" ]; }
 
+# a program that is given a ring and a recording: one is its standard input, the other its descriptor 5
+takes_two() { [ "$1" = verify ]; }
+
 # a program that answers to each part of its input as it arrives, however long that is
 streams() { [ "$1" = events ]; }
 
 usage() {
-    local main program file about
+    local main program files about
     echo 'usage: ./ring NAME [FILE]: runs NAME with FILE as its standard input. NAME is one of:'
     for main in "$root"/crates/*/src/main.rt; do
         program=${main%/src/main.rt}
         program=${program##*/}
-        file=''
-        takes_file "$program" && file=' [FILE]'
+        files=''
+        takes_file "$program" && files=' [FILE]'
+        takes_two "$program" && files=' RING RECORDING'
         # the first sentence of the program's own first line
         about=$(sed -n '1s|^// ||p' "$main")
         about=${about%%. *}
-        printf '  %-15s  %s\n' "$program$file" "${about%.}"
+        printf '  %-21s  %s\n' "$program$files" "${about%.}"
     done
 }
 
@@ -52,25 +57,52 @@ if ! is_program "$name"; then
 fi
 shift
 
+# open_input DESCRIPTOR FILE
+open_input() {
+    local reason
+    [ ! -d "$2" ] || stop "$2: Is a directory"
+    if ! { eval "exec $1<\"\$2\""; } 2>/dev/null; then
+        # the system's own reason, from the end of what bash says
+        reason=$({ : <"$2"; } 2>&1) || true
+        stop "$2: ${reason##*: }"
+    fi
+}
+
+# can_be_read DESCRIPTOR NAME
+can_be_read() {
+    { : 3<&"$1"; } 2>/dev/null || stop "$2 is closed"
+    # reads no byte, and fails where none could be read
+    read -r -n 0 -u "$1" 2>/dev/null || stop "$2 can't be read"
+}
+
 # All that can be seen to be wrong is said before anything is proved. The programs can't say it: to them an input that can't be read is an empty one.
-if takes_file "$name"; then
+if takes_two "$name"; then
+    [ $# -eq 2 ] || stop "$name takes a RING and a RECORDING"
+    [ "$1 $2" != '- -' ] || stop "only one of RING and RECORDING can be standard input"
+elif takes_file "$name"; then
     [ $# -le 1 ] || stop "$name takes one FILE at most"
 else
     [ $# -eq 0 ] || stop "$name takes no FILE"
 fi
 command -v rt >/dev/null || stop "the Rattle kit is missing: there is no rt on the PATH"
-if [ $# -eq 1 ]; then
-    [ ! -d "$1" ] || stop "$1: Is a directory"
-    if ! { exec <"$1"; } 2>/dev/null; then
-        # the system's own reason, from the end of what bash says
-        reason=$({ : <"$1"; } 2>&1) || true
-        stop "$1: ${reason##*: }"
+input=${1-standard input}
+recording=${2-}
+if takes_two "$name"; then
+    if [ "$recording" = - ]; then
+        recording='standard input'
+        { exec 5<&0; } 2>/dev/null || stop "$recording is closed"
+    else
+        open_input 5 "$recording"
     fi
+    can_be_read 5 "$recording"
+fi
+if takes_two "$name" && [ "$input" = - ]; then
+    input='standard input'
+elif [ $# -gt 0 ]; then
+    open_input 0 "$input"
 fi
 if takes_file "$name"; then
-    { : 3<&0; } 2>/dev/null || stop "standard input is closed"
-    # reads no byte, and fails where none could be read
-    read -r -n 0 2>/dev/null || stop "${1:-standard input} can't be read"
+    can_be_read 0 "$input"
 fi
 { : 3>&1; } 2>/dev/null || stop "standard output is closed"
 
@@ -119,16 +151,35 @@ if ! is_built; then
     mv "$mark.begun" "$mark"
 fi
 
-# To a program an input whose reading fails is one that ends there, and it would answer to half a ring. head tells the two apart. No program but one that
-# streams looks at more than 64 MiB.
-if takes_file "$name" && ! streams "$name"; then
-    input=$(mktemp) || stop "there is no room for ${1:-standard input}"
-    if ! head -c 67108864 >"$input" 2>/dev/null; then
-        rm -f "$input"
-        stop "${1:-standard input} can't be read"
+# To a program an input whose reading fails is one that ends there, and it would answer to half a ring. head tells the two apart.
+# take DESCRIPTOR NAME MOST: what can be read there, MOST bytes of it at most, is put into a file that then stands in its place
+take() {
+    local file
+    file=$(mktemp) || stop "there is no room for $2"
+    if ! head -c "$3" <&"$1" >"$file" 2>/dev/null; then
+        rm -f "$file"
+        stop "$2 can't be read"
     fi
-    exec <"$input"
-    rm "$input"
+    taken=$(stat -c %s "$file")
+    eval "exec $1<\"\$file\""
+    rm "$file"
+}
+
+# short_enough NAME MOST KIND: of what was taken last
+short_enough() {
+    [ "$taken" -gt "$2" ] || return 0
+    echo "ring: $1 is longer than the longest $3, $2 bytes" >&2 || true
+    exit 1
+}
+
+if takes_two "$name"; then
+    take 0 "$input" 1056769
+    short_enough "$input" 1056768 ring
+    take 5 "$recording" 1048609
+    short_enough "$recording" 1048608 recording
+elif takes_file "$name" && ! streams "$name"; then
+    # no program but one that streams looks at more than 64 MiB
+    take 0 "$input" 67108864
 fi
 
 # A program that streams is fed by cat, which tells a reading that fails from an end. cat ends by itself where the input does; where the program has ended
@@ -171,7 +222,7 @@ case $output in
 *) stop "standard output can't be written" ;;
 esac
 # nor is a program that has seen enough
-[ "$reading" -eq 0 ] || [ "$reading" -eq 141 ] || stop "${1:-standard input} can't be read"
+[ "$reading" -eq 0 ] || [ "$reading" -eq 141 ] || stop "$input can't be read"
 [ "$program" -eq 0 ] || stop "$name ended with status $program"
 [[ $digit == [01] ]] || stop "$name didn't say how it ended"
 exit "$digit"

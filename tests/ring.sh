@@ -39,7 +39,7 @@ cp examples/*.ring "$copy/examples"
 cp examples/start.ring "$copy/the first start.ring"
 cp tests/record/start.spl "$copy"
 cp tests/events/header-size.spl "$copy/faulty.spl"
-for name in events listing record replay sums; do
+for name in events listing record replay sums verify; do
     if ! cp "target/bin/$name" "$copy/target/bin"; then
         echo "ring: $name isn't built" >&2
         exit 1
@@ -51,7 +51,8 @@ echo '// Lists a ring. This is not shown.' >"$copy/crates/listing/src/main.rt"
 echo '// Records a ring' >"$copy/crates/record/src/main.rt"
 echo '// Plays a script (README.md).' >"$copy/crates/replay/src/main.rt"
 echo '// Works sums' >"$copy/crates/sums/src/main.rt"
-touch "$copy"/crates/{events,listing,record,replay}/stdin "$copy/crates/word/src/lib.rt"
+echo '// Checks a recording. This is not shown either.' >"$copy/crates/verify/src/main.rt"
+touch "$copy"/crates/{events,listing,record,replay,verify}/stdin "$copy/crates/word/src/lib.rt"
 cat >"$copy/crates.txt" <<'END'
 # listing stands on three of these
 table_rules:
@@ -62,7 +63,7 @@ text: word
 table: table_rules
 listing: text io libc
 END
-touch "$copy"/target/ring/{events,listing,record,replay,sums}
+touch "$copy"/target/ring/{events,listing,record,replay,sums,verify}
 
 # the largest ring, whose recording no pipe holds
 python3 tests/make-rings.py --large "$work" >/dev/null || fail "no large rings"
@@ -76,11 +77,12 @@ start=$(cat tests/listing/start.txt)
 events=$(cat tests/events/start.txt)
 faulty=$(cat tests/events/header-size.txt)
 usage="usage: ./ring NAME [FILE]: runs NAME with FILE as its standard input. NAME is one of:
-  events [FILE]    Shows a recording
-  listing [FILE]   Lists a ring
-  record [FILE]    Records a ring
-  replay [FILE]    Plays a script (README.md)
-  sums             Works sums"
+  events [FILE]          Shows a recording
+  listing [FILE]         Lists a ring
+  record [FILE]          Records a ring
+  replay [FILE]          Plays a script (README.md)
+  sums                   Works sums
+  verify RING RECORDING  Checks a recording"
 
 try 'a file' 0 "$start" '' './ring listing examples/start.ring'
 try 'a refusal' 1 "$(cat tests/listing/damaged.txt)" '' './ring listing examples/damaged.ring'
@@ -110,6 +112,24 @@ try 'a line that stays open after a fault' 1 "$faulty" '' 'exec 5< <(cat faulty.
 try 'bytes without end, and the signal ignored' 1 'fault 1 at 0 mark' '' "trap '' PIPE && ./ring events </dev/zero"
 try 'a reader of events that stops' 141 'recording cpu 65535' '' \
     'env --default-signal=PIPE ./ring events <many.spl | head -n 1; exit "${PIPESTATUS[0]}"'
+try 'a recording checked' 0 'same 288 bytes' '' './ring verify examples/start.ring start.spl'
+try 'a recording checked as it is made' 0 'same 288 bytes' '' './ring record <examples/start.ring | ./ring verify examples/start.ring -'
+try 'a ring from standard input' 0 'same 288 bytes' '' './ring verify - start.spl <examples/start.ring'
+try 'two pipes by name' 0 'same 288 bytes' '' './ring verify <(cat examples/start.ring) <(cat start.spl)'
+try 'files with spaces' 0 'same 288 bytes' '' 'cp start.spl "of the start.spl" && ./ring verify "the first start.ring" "of the start.spl"'
+try 'a recording that differs' 1 'differs at 140' '' './ring verify examples/start.ring faulty.spl'
+try 'a recording of another ring' 1 'differs at 8' '' './ring verify examples/empty.ring start.spl'
+try 'a recording cut short' 1 'differs at 200' '' 'head -c 200 start.spl | ./ring verify examples/start.ring -'
+try 'a recording that goes on' 1 'differs at 288' '' 'cat start.spl start.spl | ./ring verify examples/start.ring -'
+try 'no byte of a recording' 1 'differs at 0' '' './ring verify examples/start.ring /dev/null'
+try 'a recording of a refused ring' 1 '' 'refused 10 at 416 why 2' './ring verify examples/damaged.ring start.spl'
+try 'the longest' 0 'same 1048608 bytes' '' './ring record large.ring | ./ring verify large.ring -'
+try 'as long as the longest ring' 1 '' 'refused 2' 'head -c 1056768 /dev/zero | ./ring verify - start.spl'
+try 'longer than the longest ring' 1 '' 'ring: long.ring is longer than the longest ring, 1056768 bytes' \
+    'head -c 1056769 /dev/zero >long.ring && ./ring verify long.ring start.spl'
+try 'as long as the longest recording' 1 'differs at 0' '' 'head -c 1048608 /dev/zero | ./ring verify examples/start.ring -'
+try 'longer than the longest recording' 1 '' 'ring: standard input is longer than the longest recording, 1048608 bytes' \
+    'head -c 4000000 /dev/zero | ./ring verify examples/start.ring -'
 try 'a script' 0 unknown '' 'echo nothing >script && ./ring replay script'
 try 'a script too long' 1 'too long' '' 'head -c 1048577 /dev/zero | ./ring replay'
 try 'sums' 0 "$(cat crates/sums/stdout)" '' './ring sums'
@@ -126,6 +146,14 @@ try 'a library' 2 '' "ring: there is no program 'word'"$'\n'"$usage" './ring wor
 try 'a path' 2 '' "ring: there is no program 'word/../listing'"$'\n'"$usage" './ring word/../listing'
 try 'two files' 2 '' 'ring: listing takes one FILE at most' './ring listing examples/start.ring examples/empty.ring'
 try 'a file for sums' 2 '' 'ring: sums takes no FILE' './ring sums examples/start.ring'
+try 'one file to verify' 2 '' 'ring: verify takes a RING and a RECORDING' './ring verify examples/start.ring'
+try 'three files to verify' 2 '' 'ring: verify takes a RING and a RECORDING' './ring verify examples/start.ring start.spl start.spl'
+try 'standard input twice' 2 '' 'ring: only one of RING and RECORDING can be standard input' './ring verify - - <start.spl'
+try 'no such ring' 2 '' 'ring: no such.ring: No such file or directory' './ring verify "no such.ring" start.spl'
+try 'no such recording' 2 '' 'ring: no such.spl: No such file or directory' './ring verify examples/start.ring "no such.spl"'
+try 'no name for a ring' 2 '' 'ring: : No such file or directory' './ring verify "" start.spl'
+try 'a folder for a ring' 2 '' 'ring: examples: Is a directory' './ring verify examples start.spl'
+try 'a folder for a recording' 2 '' 'ring: examples: Is a directory' './ring verify examples/start.ring examples'
 try 'no such file' 2 '' 'ring: no such.ring: No such file or directory' './ring listing "no such.ring"'
 try 'a folder of events' 2 '' 'ring: examples: Is a directory' './ring events examples'
 try 'a folder' 2 '' 'ring: examples: Is a directory' './ring listing examples'
@@ -134,6 +162,9 @@ if [ "$(id -u)" -ne 0 ]; then
     try 'a file without permission' 2 '' 'ring: shut.ring: Permission denied' 'touch shut.ring && chmod 0 shut.ring && ./ring listing shut.ring'
 fi
 try 'a closed input' 2 '' 'ring: standard input is closed' './ring listing <&-'
+try 'a closed input for a ring' 2 '' 'ring: standard input is closed' './ring verify - start.spl <&-'
+try 'a closed input for a recording' 2 '' 'ring: standard input is closed' './ring verify examples/start.ring - <&-'
+try 'a folder as a recording' 2 '' "ring: standard input can't be read" './ring verify examples/start.ring - <examples'
 try 'a folder as input' 2 '' "ring: standard input can't be read" './ring listing <examples'
 try 'an input for writing' 2 '' "ring: standard input can't be read" './ring replay 0>written'
 try 'a closed output' 2 '' 'ring: standard output is closed' './ring listing examples/start.ring >&-'
@@ -145,6 +176,8 @@ try 'a full output for a large recording' 2 '' "ring: standard output can't be w
 try 'a full output for help' 2 '' "ring: standard output can't be written" './ring --help >/dev/full'
 try 'a closed output of events' 2 '' 'ring: standard output is closed' './ring events start.spl >&-'
 try 'a full output of events' 2 '' "ring: standard output can't be written" './ring events start.spl >/dev/full'
+try 'a closed output of verify' 2 '' 'ring: standard output is closed' './ring verify examples/start.ring start.spl >&-'
+try 'a full output of verify' 2 '' "ring: standard output can't be written" './ring verify examples/start.ring start.spl >/dev/full'
 try 'closed errors' 0 '' '' './ring record <examples/start.ring 2>&- | cmp - start.spl'
 try 'closed errors, and a refusal' 1 '' '' './ring record <examples/damaged.ring 2>&-'
 try 'closed errors, and no such file' 2 '' '' './ring record "no such.ring" 2>&-'
@@ -154,6 +187,8 @@ try 'full errors, and no word' 2 '' '' './ring 2>/dev/full'
 # what can be opened, and fails when it is read: a process' own memory, at 0
 try 'a file that fails' 2 '' "ring: /proc/self/mem can't be read" './ring record /proc/self/mem'
 try 'an input that fails' 2 '' "ring: standard input can't be read" 'exec 5</proc/self/mem && ./ring replay <&5; exit "$?"'
+try 'a ring that fails' 2 '' "ring: /proc/self/mem can't be read" './ring verify /proc/self/mem start.spl'
+try 'a recording that fails' 2 '' "ring: /proc/self/mem can't be read" './ring verify examples/start.ring /proc/self/mem'
 # what was shown before it fails is out by then
 try 'events of a file that fails' 2 'fault 8 at 0 ended early' "ring: /proc/self/mem can't be read" './ring events /proc/self/mem'
 
@@ -245,8 +280,8 @@ cmp crates/far/stdout "$work/output" >&2 || fail "far: another output"
 
 # the programs of the tree itself, each with a word on what it does
 tried=$((tried + 1))
-named=$(./ring 2>&1 | sed -n 's/^  \([a-z_]*\( \[FILE\]\)\?\)  *[A-Z].*/\1/p')
-[ "$named" = $'events [FILE]\nfar\nlisting [FILE]\nrecord [FILE]\nreplay [FILE]\nsums' ] || fail "the programs are named as: $named"
+named=$(./ring 2>&1 | sed -n 's/^  \([a-z_]*\( \[FILE\]\| RING RECORDING\)\?\)  *[A-Z].*/\1/p')
+[ "$named" = $'events [FILE]\nfar\nlisting [FILE]\nrecord [FILE]\nreplay [FILE]\nsums\nverify RING RECORDING' ] || fail "the programs are named as: $named"
 
 if [ "$failed" -ne 0 ]; then
     exit 1

@@ -13,7 +13,8 @@ use std::path::Path;
 
 const HEADER: u64 = 32;
 const REASONS: [u8; 7] = [1, 2, 3, 4, 5, 6, 7];
-const CALLS: [Call; 7] = [Call::Emit, Call::Inspect, Call::Read, Call::Copy, Call::Swap, Call::Follow, Call::Record];
+const CALLS: [Call; 8] =
+    [Call::Emit, Call::Inspect, Call::Read, Call::Copy, Call::Swap, Call::Follow, Call::Record, Call::Verify];
 
 #[derive(Clone, Copy, Debug, PartialEq, Eq, PartialOrd, Ord)]
 enum Call {
@@ -24,6 +25,7 @@ enum Call {
     Swap,
     Follow,
     Record,
+    Verify,
 }
 
 #[derive(Clone, Copy, Default)]
@@ -120,7 +122,8 @@ fn refused(machine: &Machine, line: &[u8], answer: &[u8]) -> Option<Refused> {
         "inspect" => (Call::Inspect, Some(before(ring, at))),
         "swap" => (Call::Swap, Some(before(ring, at))),
         "follow" => (Call::Follow, Some(before(ring, at))),
-        _ => (Call::Record, Some(before(ring, at))),
+        "record" => (Call::Record, Some(before(ring, at))),
+        _ => (Call::Verify, Some(before(ring, at))),
     };
     let before_end = capacity(ring) - at % capacity(ring);
     Some(Refused { call, reason: number(answer, 5) as u8, holding: holding(ring, at, above), before_end })

@@ -7,6 +7,7 @@ mod count_rings;
 mod count_serial;
 mod count_slips;
 mod count_stretches;
+mod count_verify;
 mod count_wakes;
 mod generate;
 mod ring;
@@ -50,7 +51,8 @@ fn count(folder: &Path) -> Result<(), String> {
     count_stretches::print(folder)?;
     count_serial::print(folder)?;
     count_reasons::print(folder)?;
-    count_slips::print(folder)
+    count_slips::print(folder)?;
+    count_verify::print(folder)
 }
 
 /// One byte above the longest script tells that it is too long; the rest need not be held.

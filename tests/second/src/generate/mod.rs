@@ -13,6 +13,7 @@ mod serial;
 mod sketch;
 mod slips;
 mod stretches;
+mod verify;
 
 use pen::Pen;
 
@@ -21,7 +22,7 @@ type Kind = (&'static str, u64, fn(&mut Pen));
 
 /// Name and script of each of the stored set.
 pub fn scripts() -> Vec<(&'static str, Vec<u8>)> {
-    let kinds: [Kind; 9] = [
+    let kinds: [Kind; 10] = [
         ("life", 101, life::write),
         ("damage", 202, damage::write),
         ("edges", 303, edges::write),
@@ -31,6 +32,7 @@ pub fn scripts() -> Vec<(&'static str, Vec<u8>)> {
         ("serial", 707, serial::write),
         ("reasons", 808, reasons::write),
         ("slips", 909, slips::write),
+        ("verify", 1010, verify::write),
     ];
     kinds.into_iter().map(|(name, seed, write)| (name, written(seed, write))).collect()
 }

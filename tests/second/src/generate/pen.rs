@@ -91,6 +91,10 @@ impl Pen {
         self.say(format!("record {buffer} {placed} {lent}"))
     }
 
+    pub fn verify(&mut self, ring: usize, recording: usize) -> String {
+        self.say(format!("verify {ring} {recording}"))
+    }
+
     pub fn sum(&mut self, buffer: usize) {
         self.say(format!("sum {buffer}"));
     }

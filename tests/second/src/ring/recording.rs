@@ -26,7 +26,7 @@ pub fn record(ring: &[u8], placed: u64, output: &mut [u8]) -> Result<usize, Refu
 }
 
 /// Taken at its word: a reader is attached and reads until EMPTY. It can't be told MOVED, since it has the page's generation.
-fn whole_recording(ring: &[u8]) -> Result<Vec<u8>, Refusal> {
+pub fn whole_recording(ring: &[u8]) -> Result<Vec<u8>, Refusal> {
     let mut recording = opening(open(ring)?.cpu_id);
     let mut reader = attach(ring)?;
     let mut event = vec![0; ring.len()];

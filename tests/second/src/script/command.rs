@@ -23,6 +23,7 @@ pub enum Command {
     Follow { buffer: usize, reader: usize },
     Swap { from: usize, to: usize, writer: usize },
     Record { buffer: usize, placed: u64, lent: usize },
+    Verify { buffer: usize, recording: usize },
     Serial,
     Feed { piece: Vec<u8> },
     End,
@@ -83,6 +84,7 @@ fn ring_command(word: &[u8], rest: &[&[u8]]) -> Option<Command> {
         (b"follow", [b, r]) => Command::Follow { buffer: index(b)?, reader: index(r)? },
         (b"swap", [b, c, w]) if b != c => Command::Swap { from: index(b)?, to: index(c)?, writer: index(w)? },
         (b"record", [b, placed, n]) => Command::Record { buffer: index(b)?, placed: number(placed)?, lent: length(n)? },
+        (b"verify", [b, c]) if b != c => Command::Verify { buffer: index(b)?, recording: index(c)? },
         _ => return None,
     })
 }

@@ -5,7 +5,8 @@ use super::command::{parse, Command};
 use super::fields::hex;
 use super::LONGEST_BUFFER;
 use crate::ring::{
-    self, Confirmed, Copied, Emitted, NewEvent, ReadAnswer, Reader, RecordingReader, Refusal, Report, Slip, Swapped, Writer,
+    self, Confirmed, Copied, Emitted, NewEvent, ReadAnswer, Reader, RecordingReader, Refusal, Report, Slip, Swapped, Verified,
+    Writer,
 };
 
 pub const UNKNOWN: &str = "unknown";
@@ -46,18 +47,9 @@ impl Machine {
             Command::Get { buffer, at, length } => self.get(buffer, at, length),
             Command::Sum { buffer } => format!("sum {}", adler(&self.buffers[buffer])),
             Command::Outsum => format!("sum {}", adler(&self.output)),
-            Command::Writer { writer, record } => {
-                self.writers[writer] = record;
-                "ok".to_string()
-            }
-            Command::Reader { reader, record } => {
-                self.readers[reader] = record;
-                "ok".to_string()
-            }
-            Command::Slip { slip, numbers } => {
-                self.slips[slip] = numbers;
-                "ok".to_string()
-            }
+            Command::Writer { writer, record } => set(&mut self.writers[writer], record),
+            Command::Reader { reader, record } => set(&mut self.readers[reader], record),
+            Command::Slip { slip, numbers } => set(&mut self.slips[slip], numbers),
             Command::Create { buffer, cpu_id } => said(ring::create(&mut self.buffers[buffer], cpu_id).map(|()| "done")),
             Command::Emit { buffer, writer, timestamp, event_type, origin_class, payload } => {
                 self.emit(buffer, writer, &NewEvent { timestamp, event_type, origin_class, payload: &payload })
@@ -70,10 +62,8 @@ impl Machine {
             Command::Follow { buffer, reader } => self.follow(buffer, reader),
             Command::Swap { from, to, writer } => self.swap(from, to, writer),
             Command::Record { buffer, placed, lent } => self.record(buffer, placed, lent),
-            Command::Serial => {
-                self.recording_reader = Default::default();
-                "ok".to_string()
-            }
+            Command::Verify { buffer, recording } => self.verify(buffer, recording),
+            Command::Serial => set(&mut self.recording_reader, Default::default()),
             Command::Feed { piece } => self.feed(&piece),
             Command::End => self.end(),
         }
@@ -210,6 +200,13 @@ impl Machine {
         said(outcome.map(|count| format!("placed {count} bytes {}", hex(&self.output[..count]))))
     }
 
+    fn verify(&self, buffer: usize, recording: usize) -> String {
+        said(ring::verify(&self.buffers[buffer], &self.buffers[recording]).map(|answer| match answer {
+            Verified::Same => "same".to_string(),
+            Verified::DiffersAt(place) => format!("differs at {place}"),
+        }))
+    }
+
     fn feed(&mut self, piece: &[u8]) -> String {
         said(self.recording_reader.feed(piece).map(|reports| "fed".to_string() + &told(&reports)))
     }
@@ -228,6 +225,12 @@ impl Machine {
         let Reader { read_pos, last, handed, generation } = self.readers[reader];
         format!(" reader {read_pos} {last} {handed} {generation}")
     }
+}
+
+/// A record takes any numbers.
+fn set<Record>(record: &mut Record, numbers: Record) -> String {
+    *record = numbers;
+    "ok".to_string()
 }
 
 /// An answer, or the refusal in the paper's form.

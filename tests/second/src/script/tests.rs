@@ -192,3 +192,61 @@ fn wrong_fields_of_slips_copies_and_confirms() {
     }
     assert_eq!(answers("copy 0 0 0 40960\nconfirm 0 0 0\n"), "refused 1 reader 0 0 0 0\n".repeat(2));
 }
+
+/// The ring is named first. A recording in its place is no ring, and a ring in the recording's place is no recording.
+#[test]
+fn a_recording_is_verified_beside_a_ring() {
+    let recording = format!("53504c0100020100{}", "00".repeat(24));
+    let script = format!(
+        "size 2 8448\ncreate 2 258\nsize 0 32\nput 0 0 {recording}\nverify 2 0\nverify 0 2\nput 0 31 01\nverify 2 0\n\
+         size 0 8\nput 0 0 53504c0100020100\nverify 2 0\nverify 2 1\nsize 0 33\nput 0 0 {recording}\nverify 2 0\n\
+         size 3 8448\ncreate 3 258\nverify 2 3\nput 2 64 01\nverify 2 3\nverify 2 1\n"
+    );
+    let expected = [
+        "same",
+        "refused 1",
+        "ok",
+        "differs at 31",
+        "ok",
+        "ok",
+        "differs at 8",
+        "differs at 0",
+        "ok",
+        "ok",
+        "differs at 32",
+        "ok",
+        "done",
+        "differs at 0",
+        "ok",
+        "refused 10 at 0 why 1",
+        "refused 10 at 0 why 1",
+    ];
+    assert_eq!(answers(&script).lines().collect::<Vec<&str>>()[4..], expected);
+}
+
+/// Whatever it answers: no buffer, not the output, no record, no slip, and not the file that is being fed.
+#[test]
+fn verifying_touches_nothing() {
+    let event = "2200000020000201010000000000000001000000000000000200000003000000aabb";
+    let recording = format!("53504c0100020100{event}000000000000000001000000000000000000000000000000");
+    let before = format!(
+        "size 0 8448\ncreate 0 258\nemit 0 0 1 2 3 aabb\nattach 0 0\ncopy 0 0 0 40\nsize 1 66\nput 1 0 {recording}\nfeed 5350\n"
+    );
+    let verified = "verify 0 1\nverify 0 2\nverify 1 0\n";
+    let after = "sum 0\nsum 1\nsum 2\nsum 3\noutsum\nconfirm 0 0 0\nemit 0 0 1 2 3 -\nfeed 4c\nend\n";
+    let (with, without) = (answers(&format!("{before}{verified}{after}")), answers(&format!("{before}{after}")));
+    let (with, without): (Vec<&str>, Vec<&str>) = (with.lines().collect(), without.lines().collect());
+    assert_eq!(with[8..11], ["same", "differs at 0", "refused 1"]);
+    assert_eq!(with[11..], without[8..]);
+}
+
+#[test]
+fn wrong_fields_of_verify() {
+    for line in ["verify", "verify 0", "verify 0 1 2", "verify 0 4", "verify 4 0", "verify 0 00", "verify 0 1 ", "verify 0 -"] {
+        assert_eq!(answers(&format!("{line}\n")), "unknown\n", "{line}");
+    }
+    for buffer in 0..4 {
+        assert_eq!(answers(&format!("verify {buffer} {buffer}\n")), "unknown\n");
+    }
+    assert_eq!(answers("verify 0 1\nverify 3 2\n"), "refused 1\n".repeat(2));
+}

@@ -17,6 +17,7 @@ uint32_t bench_copy(const uint8_t *ring, size_t ring_bytes, uint8_t *record, siz
 uint32_t bench_confirm(const uint8_t *ring, size_t ring_bytes, uint8_t *record, size_t record_bytes, const uint8_t *slip, size_t slip_bytes);
 uint32_t bench_swap(uint8_t *old, size_t old_bytes, uint8_t *new, size_t new_bytes, uint8_t *record, size_t record_bytes);
 uint32_t bench_record(const uint8_t *ring, size_t ring_bytes, uint64_t placed, uint8_t *out, size_t out_bytes);
+uint64_t bench_verify(const uint8_t *ring, size_t ring_bytes, const uint8_t *file, size_t file_bytes);
 uint64_t bench_listen(const uint8_t *file, size_t file_bytes, uint64_t size);
 
 enum { ARCHIVE, PLAIN, PREPARED };
@@ -34,6 +35,8 @@ enum { ARCHIVE, PLAIN, PREPARED };
 #define AGAIN 1003
 /* from where on bench_record tells how many bytes it put */
 #define PUT 2000
+/* and bench_verify the first place that differs */
+#define DIFFERS 2000
 
 static uint8_t ring[3][LARGEST];
 static uint8_t new_ring[2][LARGEST];
@@ -330,6 +333,23 @@ static void measure_record(const char *group, const char *piece, unsigned long e
     printf("%s|capacity %zu, %lu events in %zu bytes: %zu put%s|%zu|%lu\n", group, ring_bytes - DATA_OFFSET, events, bytes_held(), bytes, piece, bytes, events);
 }
 
+/* a file, in the new ring's buffer, held against the ring; as many of its bytes are compared as agree, and the one that doesn't */
+static void measure_verify(const char *group, const char *where, const char *which, unsigned long events, size_t file_bytes, uint64_t wanted)
+{
+    size_t compared = wanted == LAMIPEONGA_DONE ? file_bytes : (size_t)(wanted - DIFFERS) + 1;
+    uint64_t answer[2];
+
+    hand_to_both();
+    answer[ARCHIVE] = bench_verify(ring[ARCHIVE], ring_bytes, new_ring[PLAIN], file_bytes);
+    call_ended();
+    answer[PLAIN] = plain_verify(ring[PLAIN], ring_bytes, new_ring[PLAIN], file_bytes);
+    call_ended();
+    same_answer(group, (uint32_t)wanted, (uint32_t)answer[ARCHIVE], (uint32_t)answer[PLAIN]);
+    same(group, ring[ARCHIVE], ring[PREPARED], ring_bytes);
+    printf("%s|capacity %zu, %lu events%s: a recording of %zu bytes, %s|%zu|%lu\n", group, ring_bytes - DATA_OFFSET, events, where, file_bytes, which, compared,
+           events);
+}
+
 /* the recording of the ring prepared, in the new ring's buffer, listened to in pieces */
 static void measure_listen(const char *group, size_t payload_bytes, unsigned long events, uint64_t size)
 {
@@ -481,6 +501,31 @@ static void recordings(size_t small, size_t large)
     record_over_the_end(large);
 }
 
+/* the ring's own recording, and with another byte first, last and behind its end */
+static void verify_ring(const char *where, unsigned long events)
+{
+    uint8_t *file = new_ring[PLAIN];
+    size_t file_bytes = bytes_held() + ENDS_BYTES;
+
+    measure_inspect("beside verify", ring_bytes - DATA_OFFSET, events);
+    prepare_record(ring[PREPARED], ring_bytes, 0, file, file_bytes);
+    measure_verify("verify", where, "equal", events, file_bytes, LAMIPEONGA_DONE);
+    file[0] ^= 1;
+    measure_verify("verify", where, "the first byte differs", events, file_bytes, DIFFERS);
+    file[0] ^= 1;
+    file[file_bytes - 1] ^= 1;
+    measure_verify("verify", where, "the last byte differs", events, file_bytes, DIFFERS + file_bytes - 1);
+    file[file_bytes - 1] ^= 1;
+    measure_verify("verify", where, "one byte longer", events, file_bytes + 1, DIFFERS + file_bytes);
+}
+
+static void verifications(size_t capacity)
+{
+    verify_ring("", fill(capacity, 0));
+    verify_ring("", fill(capacity, 96));
+    verify_ring(" over the data's end", fill_over_the_end(capacity));
+}
+
 /* small pieces of a small file, since every byte of them is counted; large ones of a file that has many of them */
 static void listenings(size_t small, size_t large)
 {
@@ -515,12 +560,12 @@ static void print_marks(void)
     printf("%016lx", (unsigned long)call_ended);
     printf(" %016lx %016lx %016lx %016lx %016lx", (unsigned long)lamipeonga_create, (unsigned long)lamipeonga_emit, (unsigned long)lamipeonga_inspect,
            (unsigned long)bench_read, (unsigned long)bench_swap);
-    printf(" %016lx %016lx %016lx %016lx", (unsigned long)bench_record, (unsigned long)bench_listen, (unsigned long)bench_copy,
-           (unsigned long)bench_confirm);
+    printf(" %016lx %016lx %016lx %016lx %016lx", (unsigned long)bench_record, (unsigned long)bench_listen, (unsigned long)bench_copy,
+           (unsigned long)bench_confirm, (unsigned long)bench_verify);
     printf(" %016lx %016lx %016lx %016lx %016lx", (unsigned long)plain_create, (unsigned long)plain_emit, (unsigned long)plain_inspect,
            (unsigned long)plain_read, (unsigned long)plain_swap);
-    printf(" %016lx %016lx %016lx %016lx\n", (unsigned long)plain_record, (unsigned long)plain_listen, (unsigned long)plain_copy,
-           (unsigned long)plain_confirm);
+    printf(" %016lx %016lx %016lx %016lx %016lx\n", (unsigned long)plain_record, (unsigned long)plain_listen, (unsigned long)plain_copy,
+           (unsigned long)plain_confirm, (unsigned long)plain_verify);
 }
 
 int main(void)
@@ -538,6 +583,7 @@ int main(void)
     measure_swap("warm", 4096, 4096, 64);
     measure_record("warm", ", the whole", 64, 0, sizeof new_ring[0]);
     measure_listen("warm", 32, 64, 1);
+    measure_verify("warm", "", "equal", 64, bytes_held() + ENDS_BYTES, LAMIPEONGA_DONE);
     fill(4096, 32);
     measure_copy("warm", 4096, 32);
     measure_confirm("warm", 4096, 32, 0, LAMIPEONGA_DONE);
@@ -550,6 +596,8 @@ int main(void)
     creations();
     swaps(65536);
     recordings(4096, 65536);
+    verifications(4096);
+    verifications(1048576);
     listenings(16384, 262144);
     growth();
     return differences != 0;

@@ -9,8 +9,8 @@ BEGIN {
 }
 FILENAME == ARGV[1] { count[FNR] = $1; next }
 $1 == "warm" { next }
-# one inspection of the ring that the records below it are of
-$1 == "beside record" { take(FNR, inspection); next }
+# one inspection of the ring that the calls below it are made on
+$1 ~ /^beside / { take(FNR, inspection); next }
 {
     take(FNR, now)
     group = $1
@@ -30,6 +30,8 @@ $1 == "beside record" { take(FNR, inspection); next }
         make()
     else if (kind == "record")
         piece()
+    else if (kind == "verify")
+        verify()
     else if (kind == "listen")
         listen()
     else
@@ -91,6 +93,8 @@ function head(kind,    first) {
         print_head(first titles("per kilobyte made", "per kilobyte"))
     else if (kind == "record")
         print_head(first titles("per kilobyte in such pieces", "per kilobyte") " one inspection: " names " | the call beyond it: " names " |")
+    else if (kind == "verify")
+        print_head(first " one inspection: " names " | the call beyond it: " names " | bytes compared |" titles("per byte compared beyond an inspection", "per byte compared"))
     else if (kind == "inspect")
         print_head(first titles("per event", "per event"))
     else if (kind == "listen")
@@ -142,6 +146,11 @@ function piece() {
     }
     if ($3 == 32)
         keep(shorter)
+}
+
+# a call less one inspection of the same ring is what comparing takes
+function verify() {
+    print row " " each("%d", inspection, nothing, 1, ", ") " | " each("%d", now, inspection, 1, ", ") " | " $3 " | " each("%.2f", now, inspection, $3, " | ") " |"
 }
 
 # a whole file, its opening and its closing with it

@@ -1,4 +1,6 @@
 // How far two stretches of bytes agree: blocks as far as these are alike, then words, then bytes, so that all but the end is told by wide comparisons.
+#![tactic(auto)]
+
 ghost use Rattle.std.specs.Prelude.{◌≡◌, ◌≤◌, min, length};
 ghost use Rattle.difference_rules.specs.Difference.{agreeing};
 ghost use Rattle.difference_rules.proofs.Facts.{Alike};

@@ -1,5 +1,7 @@
 // RULES 8.2: the firmware has no such calls. Reading, the swap, the recording and its check as C can call them, for the measurement in bench/ alone.
 // Records lie in bytes as the firmware's calls have them. What the firmware's calls have no number for gets one of this crate's own, 1,000 or above.
+#![tactic(auto)]
+
 ghost use Rattle.std.specs.Prelude.{◌≡◌, ℕ, ◌≤◌};
 ghost use Rattle.recording_rules.specs.declared.Recorded.TheVariants.{Placed};
 ghost use Rattle.bench_calls.specs.Calls.{answer_number, read_answer, same_outcome, recorded_number, read_call, swap_call, record_call};
@@ -15,7 +17,7 @@ use table_rules::Refusal;
 pub mod checking;
 pub mod reader_bytes;
 
-#[derive(Drop)]
+#[derive(Clone, Copy)]
 pub enum BenchAnswer {
     Done,
     Empty,

@@ -11,7 +11,7 @@ use serial_rules::Listener;
 use std::num::wrapping_add_u64;
 
 // How far strides have led.
-#[derive(Drop)]
+#[derive(Clone, Copy)]
 pub struct Reached {
     pub listener: Listener,
     pub at: usize,

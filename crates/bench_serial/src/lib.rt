@@ -1,5 +1,7 @@
 // A whole file listened to in pieces of one size, for the measurement in bench/ alone: by strides wherever they can be made, else by steps. Every report
 // goes into one sum, so that none can be left out.
+#![tactic(auto)]
+
 ghost use Rattle.std.specs.Prelude.{◌≡◌, ◌%◌, ◌^◌, min};
 ghost use Rattle.bench_serial.specs.Listened.{end_number, piece_size, heard, listened};
 
@@ -15,7 +17,7 @@ pub mod reports;
 pub mod run;
 
 // What a piece leaves: the listener, and the sum of all reports so far.
-#[derive(Drop)]
+#[derive(Clone, Copy)]
 pub struct Hearing {
     pub listener: Listener,
     pub sum: u64,

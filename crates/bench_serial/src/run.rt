@@ -8,7 +8,7 @@ use std::num::wrapping_add_u64;
 use strides::stride::stride;
 
 // How far strides have come in a piece.
-#[derive(Drop)]
+#[derive(Clone, Copy)]
 pub struct Ran {
     pub course: Course,
     pub at: usize,

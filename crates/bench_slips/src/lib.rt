@@ -1,5 +1,7 @@
 // RULES 8.2: the firmware has no such calls. Copying and confirming as C can call them, for the measurement in bench/ alone, with record and slip in 32
 // bytes each. Apart from reading: in one archive with it the compiler makes copying a function of its own, which reading then calls (docs/BENCHMARK.md).
+#![tactic(auto)]
+
 ghost use Rattle.std.specs.Prelude.{◌≡◌};
 ghost use Rattle.bench_slips.specs.Slips.{copy_answer, confirm_answer, copy_call, confirm_call};
 

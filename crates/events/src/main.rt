@@ -1,5 +1,7 @@
 // Shows the recording that arrives on standard input, a line for each event as soon as it is whole. Each read is shown before the next one, so that a
 // slow line is watched live.
+#![tactic(auto)]
+
 ghost use Rattle.std.specs.Prelude.{◌≡◌, true, ◌≤◌, ◌<◌, length};
 ghost use Rattle.events_text.specs.Events.{keeps_on};
 
@@ -9,7 +11,7 @@ use libc::{STDERR_FILENO, STDIN_FILENO, STDOUT_FILENO};
 use status::{STATUS_FILENO, digit};
 
 // What is known after a read. `more` says that there may be bytes to come.
-#[derive(Drop)]
+#[derive(Clone, Copy)]
 struct Watched {
     showing: Showing,
     how: Heard,

@@ -1,4 +1,6 @@
 // Tries the listener near 2^62 bytes, where refusal 9 is given, and in impossible states: what each call answers is printed, a line each.
+#![tactic(auto)]
+
 mod calls;
 mod near;
 mod never;

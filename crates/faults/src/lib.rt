@@ -1,4 +1,6 @@
 // The faults of a recording by their numbers.
+#![tactic(auto)]
+
 ghost use Rattle.std.specs.Prelude.{◌≡◌};
 ghost use Rattle.reading_rules.specs.Parts.{fault_number};
 

@@ -1,4 +1,6 @@
 // Lists the ring on standard input. One byte above the most that a listing takes is read, so that a longer input is seen to be too long.
+#![tactic(auto)]
+
 use libc::{STDIN_FILENO, STDOUT_FILENO};
 use listing_text::listing;
 use refusal_text::Kind;

@@ -1,3 +1,5 @@
 // What programs share.
+#![tactic(auto)]
+
 pub mod reply;
 pub mod room;

@@ -1,4 +1,6 @@
 // Writes the recording of the ring on standard input. One byte above the longest ring is read, so that a longer input is seen to be too long.
+#![tactic(auto)]
+
 use libc::STDIN_FILENO;
 use program::reply::give;
 use program::room::{recording_room, ring_room};

@@ -1,4 +1,6 @@
 // Plays a script of calls on rings, of at most 1 MiB on standard input, and answers each line by a line (tests/second/README.md, "A script").
+#![tactic(auto)]
+
 mod play;
 mod room;
 

@@ -1,4 +1,6 @@
 // A line of any kind, taken to what it plays on.
+#![tactic(auto)]
+
 ghost use Rattle.std.specs.Prelude.{◌≡◌, ◌⊎◌, replicate};
 ghost use Rattle.writer_rules.specs.Writer.{zeros as noneWritten};
 ghost use Rattle.reader_rules.specs.Reader.{reader_with};
@@ -15,7 +17,7 @@ use serial::listener;
 use serial_rules::Listener;
 
 // The listener stands apart from the records and slips: its lines are given nothing else, and no other line is given it.
-#[derive(Drop)]
+#[derive(Clone, Copy)]
 pub struct Playing {
     pub records: State,
     pub listener: Listener,

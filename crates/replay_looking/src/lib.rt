@@ -1,4 +1,6 @@
 // A line that leaves the bytes of the buffer that it names, taken to its function by its word.
+#![tactic(auto)]
+
 ghost use Rattle.std.specs.Prelude.{◌≡◌};
 
 use replay_setting::memory;

@@ -1,4 +1,6 @@
 // A line on one buffer, taken to the buffer that it names.
+#![tactic(auto)]
+
 ghost use Rattle.std.specs.Prelude.{◌≡◌, ◌≤◌};
 
 use replay_setting::memory;

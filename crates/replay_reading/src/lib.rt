@@ -1,4 +1,6 @@
 // The operations that leave a ring as it is: a function for each, which reads the line's fields, makes the call and says its answer.
+#![tactic(auto)]
+
 ghost use Rattle.std.specs.Prelude.{◌≡◌, ◌≤◌};
 
 use inspect_rules::Inspected;

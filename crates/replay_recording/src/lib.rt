@@ -1,4 +1,6 @@
 // The calls that record a ring and check a recording: each function reads the line's fields, makes the call and says its answer.
+#![tactic(auto)]
+
 ghost use Rattle.std.specs.Prelude.{◌≡◌};
 
 use difference_rules::Difference;

@@ -1,4 +1,6 @@
 // The lines on the listener: the one to whom a script feeds recordings in pieces.
+#![tactic(auto)]
+
 ghost use Rattle.std.specs.Prelude.{◌≡◌};
 ghost use Rattle.serial_rules.specs.Feed.{feed};
 ghost use Rattle.replay_serial.specs.Line.{fed_line, heard_line};

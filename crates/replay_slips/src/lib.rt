@@ -1,5 +1,7 @@
 // The lines on slips: one is set, an event is copied, what was copied is confirmed. A function for each, which reads the line's fields, makes the call and
 // says its answer.
+#![tactic(auto)]
+
 ghost use Rattle.std.specs.Prelude.{◌≡◌, ◌≤◌};
 ghost use Rattle.replay_slips.specs.Kept.{slips_after};
 

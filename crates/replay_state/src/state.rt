@@ -11,7 +11,7 @@ use writer::zeros;
 use writer_rules::Writer;
 
 // How many bytes of each buffer are in use, the records, and the slips.
-#[derive(Drop)]
+#[derive(Clone, Copy)]
 pub struct State {
     pub lengths: [usize; 4],
     pub writers: [Writer; 4],

@@ -1,4 +1,6 @@
 // A line on two buffers, taken to the two that it names.
+#![tactic(auto)]
+
 ghost use Rattle.std.specs.Prelude.{◌≡◌, ◌≤◌};
 
 use replay_state::state::{State, unknown};

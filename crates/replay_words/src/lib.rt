@@ -1,11 +1,13 @@
 // The words that begin a line, each with the number of fields that its line has.
+#![tactic(auto)]
+
 ghost use Rattle.std.specs.Prelude.{◌≡◌, ◌&&◌, eqb};
 ghost use Rattle.script.specs.Field.{alike};
 
 use script::field::{count_fields, field, same};
 
 // A line that may change the bytes of the buffer that it names.
-#[derive(Drop)]
+#[derive(Clone, Copy)]
 pub enum Changing {
     Put,
     Create,
@@ -14,7 +16,7 @@ pub enum Changing {
 }
 
 // A line that leaves the bytes of the buffer that it names.
-#[derive(Drop)]
+#[derive(Clone, Copy)]
 pub enum Looking {
     Get,
     Sum,
@@ -28,21 +30,21 @@ pub enum Looking {
 }
 
 // A line on two buffers.
-#[derive(Drop)]
+#[derive(Clone, Copy)]
 pub enum Pair {
     Swap,
     Verify,
 }
 
 // A line on the listener.
-#[derive(Drop)]
+#[derive(Clone, Copy)]
 pub enum Serial {
     Fresh,
     Feed,
     End,
 }
 
-#[derive(Drop)]
+#[derive(Clone, Copy)]
 pub enum Command {
     Size,
     Outsum,

@@ -1,4 +1,6 @@
 // The operations that change a ring: a function for each, which reads the line's fields, makes the call and says its answer.
+#![tactic(auto)]
+
 ghost use Rattle.std.specs.Prelude.{◌≡◌};
 
 use create_rules::Created;

@@ -1,9 +1,11 @@
 // What a line of a script is made of: fields, numbers and bytes read from text, and bytes written as text.
+#![tactic(auto)]
+
 pub mod field;
 pub mod hex;
 pub mod number;
 
-#[derive(Drop)]
+#[derive(Clone, Copy)]
 pub enum Parsed {
     Is(u64),
     Bad,

@@ -1,12 +1,14 @@
 // RULES 8.10: how a program has ended, as one digit for descriptor 3, since a program has no exit status of its own. `./ring` reads it there; where nobody
 // listens the digit can't be written, and that is no fault.
+#![tactic(auto)]
+
 ghost use Rattle.std.specs.Prelude.{◌≡◌};
 ghost use Rattle.status.specs.Status.{digit_of};
 
 pub const STATUS_FILENO: i32 = 3;
 
 // With the good answer; with the other answer, or with none.
-#[derive(Drop)]
+#[derive(Clone, Copy)]
 pub enum Ended {
     Good,
     Other,

@@ -1,4 +1,6 @@
 // RULES 9.1: lines 1 to 12 of the sums worked on real rings: what is found is printed, a line each.
+#![tactic(auto)]
+
 mod lives;
 mod print;
 mod refusals;

@@ -1,4 +1,6 @@
 // The refusals by their numbers.
+#![tactic(auto)]
+
 ghost use Rattle.std.specs.Prelude.{◌≡◌};
 ghost use Rattle.table_rules.specs.Refusals.{paper_number};
 

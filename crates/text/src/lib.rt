@@ -1,4 +1,6 @@
 // Text put into a lent buffer. Each writer asks for exactly the room of its text, and says by `Put` what it wrote and where the next text goes.
+#![tactic(auto)]
+
 pub mod decimal;
 pub mod phrase;
 pub mod put;

@@ -1,5 +1,7 @@
 // Checks a recording against the ring that it is said to be of. The ring comes on standard input, the recording on descriptor 5. Of each a byte more than
 // the longest one has is read: what is longer is then refused, or differs, as the whole of it would.
+#![tactic(auto)]
+
 use libc::STDIN_FILENO;
 use program::reply::give;
 use program::room::{file_room, ring_room};

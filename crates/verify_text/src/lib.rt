@@ -1,4 +1,6 @@
 // RULES 10.10: a ring's bytes and a recording's in, one line out: whether the two agree, or why that can't be said.
+#![tactic(auto)]
+
 ghost use Rattle.std.specs.Prelude.{◌+◌, ◌≤◌, length};
 ghost use Rattle.text.specs.Put.{Put};
 ghost use Rattle.refusal_text.specs.Reply.{Stands};

@@ -26,8 +26,16 @@ class Function:
         self.parent = {p[0]: p[1] for p in row["places"]}
         self.step = {p[0]: p[2] for p in row["places"]}
         self.new_place = dict(zip([p[0] for p in row["places"]], row["places_by_name"]))
+        # of the records of one arm the last has all that the arm knows
+        for p, n in list(self.new_place.items()):
+            whole = re.sub(r"-\d+$", "", n)
+            if re.match(r"In[-_]", n) and whole != n and whole in row["places_by_name"]:
+                self.new_place[p] = whole
         self.needs = {plain(old): (new, row["asked_at"][i][0]) for i, (old, new) in enumerate(row["needs"])}
         self.by_plain = {plain(p): p for p in self.parent}
+        self.clauses = {q[0]: c["fields"] for q, c in zip(row["places"], row["clauses"]) if c}
+        self.names_at = {self.step[p][1]: names for p, names in self.clauses.items()}
+        self.asked = {plain(old): names for old, names in row["asked"].items()}
         self.typed = {}
         for p, known in zip([q[0] for q in row["places"]], row["typed"]):
             for variable, step in known:
@@ -52,7 +60,7 @@ class Function:
 STARTS = {"args", "requires", "ranges", "lifetimes", "ghost"}
 
 
-def resolve(fn, place, fields):
+def resolve(fn, place, fields, base=None):
     """The path below a place, as fields of c. Returns (new path or None, place if the path ends at a place)."""
     i = 0
     while i < len(fields) and fields[i] == "before":
@@ -60,13 +68,17 @@ def resolve(fn, place, fields):
     here = fn.up(place, i)
     rest = fields[i:]
     if not rest:
-        return None, here
+        return None, here or fn.chain(place)[-1]
     head = rest[0]
     if head in STARTS:
+        pre = fn.row["pre"]
+        names = pre.get("fields") if isinstance(pre, dict) else pre
+        if head == "requires" and names and len(rest) > 1 and rest[1].isdigit() and int(rest[1]) < len(names):
+            return ["c", head, names[int(rest[1])]] + rest[2:], None
         return ["c"] + rest, None
     # the place's own step, or the next one further back that has this name
     order = fn.chain(here) if here else []
-    order += [p for p in fn.chain(place) if p not in order]
+    order += [p for p in fn.chain(place) + (fn.chain(base) if base else []) if p not in order]
     for p in order:
         old, new = fn.step[p]
         if old and plain(old) == plain(head):
@@ -78,6 +90,9 @@ def resolve(fn, place, fields):
                             return ["c", arm, f] + rest[1 + len(path) :], None
             if plain(old) in fn.typed and rest[1:2] == ["given"]:
                 return ["c", "type_inv", fn.typed[plain(old)]] + rest[2:], None
+            names = fn.clauses.get(p)
+            if names and rest[1:2] == ["ensures"] and len(rest) > 2 and rest[2].isdigit() and int(rest[2]) < len(names):
+                return ["c", new, "ensures", names[int(rest[2])]] + rest[3:], None
             return ["c", new] + rest[1:], None
     return ["c", "TURN_" + head] + rest[1:], None
 
@@ -85,14 +100,16 @@ def resolve(fn, place, fields):
 def answer(fn, place, body, binder="c", functions={}, shared={}, goal=None):
     """Turns the paths of an answer's body. A lemma of `shared` is handed the record that its goals share."""
     aliases = {binder: place}
+    named = {}
 
     def whole(before, at):
         lemma = re.search(r"(" + NAME + r")[ \n]+\(*$", before)
         if not lemma or lemma[1] not in shared:
             return "c"
         wanted = fn.new_place[shared[lemma[1]]]
-        text = "c" if goal is None and shared[lemma[1]] == place else f"(goal.at.{goal} c).{wanted}"
-        return text[1:-0] if False else text
+        if shared[lemma[1]] == place:
+            return "c"
+        return f"(goal.at.{goal} c).{wanted}"
 
     # aliases bound by let
     out = ""
@@ -104,9 +121,10 @@ def answer(fn, place, body, binder="c", functions={}, shared={}, goal=None):
     while changed:
         changed = False
         for f in functions:
-            m = re.search(r"\(" + re.escape(f) + r" \(?(" + NAME + r"(?:\." + NAME + r")*)\)?\)", text)
+            path_in = NAME + r"(?:\." + NAME + r")*"
+            m = re.search(r"\(" + re.escape(f) + r" (?:\(" + path_in + r"\)|" + path_in + r")\)", text)
             if m:
-                text = text[: m.start()] + "c" + text[m.end() :]
+                text = text[: m.start()] + binder + text[m.end() :]
                 changed = True
     result = []
     while pos < len(text):
@@ -119,10 +137,12 @@ def answer(fn, place, body, binder="c", functions={}, shared={}, goal=None):
         if m[1]:
             parts = m[2].split(".")
             if parts[0] in aliases:
-                path, at = resolve(fn, aliases[parts[0]], parts[1:])
+                path, at = resolve(fn, aliases[parts[0]], parts[1:], place)
                 if path is None:
                     aliases[m[1]] = at
                     continue
+                if path[-1] in ("ensures", "requires"):
+                    named[m[1]] = fn.names_at.get(path[-2]) or (fn.row["pre"] if path[-1] == "requires" else None)
                 result.append("let %s = %s in%s" % (m[1], ".".join(path), m[0].split(" in", 1)[1] if " in" in m[0] else " "))
                 aliases.pop(m[1], None)
                 continue
@@ -131,8 +151,12 @@ def answer(fn, place, body, binder="c", functions={}, shared={}, goal=None):
             result.append(m[0])
             continue
         if m[3]:
+            steps = m[4][1:].split(".")
+            if named.get(m[3]) and steps[0].isdigit() and int(steps[0]) < len(named[m[3]]):
+                result.append(".".join([m[3], named[m[3]][int(steps[0])]] + steps[1:]))
+                continue
             if m[3] in aliases:
-                path, at = resolve(fn, aliases[m[3]], m[4][1:].split("."))
+                path, at = resolve(fn, aliases[m[3]], m[4][1:].split("."), place)
                 result.append(".".join(path) if path else whole("".join(result), at))
             else:
                 result.append(m[0])
@@ -141,7 +165,18 @@ def answer(fn, place, body, binder="c", functions={}, shared={}, goal=None):
             result.append(whole("".join(result), aliases[m[5]]))
         else:
             result.append(m[0])
-    return "".join(result)
+    text = re.sub(r"(?:not-true|not-false) _ (\(?(?:sym c\.[\w.-]+ ∙ )?c\.if-not-[\w.-]+)", r"\1", "".join(result))
+    return source_fields(text, fn)
+
+
+def source_fields(text, fn):
+    """A field that is named after the source has the source's spelling."""
+
+    def one(m):
+        name = m[1][:-4] if m[1].endswith("_lem") else m[1]
+        return "." + fn.idents.get(plain(name), m[1]) if "-" in name or name != m[1] else m[0]
+
+    return re.sub(r"(?<=[\w)])\.([a-z][\w-]*)", one, text)
 
 
 def parts(text):
@@ -189,6 +224,33 @@ def clause_names(crate, where, kind):
             m = re.search(r"\bfn " + re.escape(name) + r"\b.*?(?=\nfn |\npub fn |\Z)", text, re.S)
             if m and (len(where) == 1 or f == where[-2] + ".rt" or where[-2][0].isupper()):
                 return re.findall(r"(?m)^ +" + kind + r" (\w+) \{", m[0])
+    return []
+
+
+def crate_of(path):
+    return path.split("/")[1]
+
+
+def sources(crate):
+    for folder, _, found in os.walk(f"crates/{crate}/src"):
+        for f in found:
+            if f.endswith(".rt"):
+                yield open(os.path.join(folder, f), encoding="utf-8").read()
+
+
+def source_name(crate, name):
+    for text in sources(crate):
+        for m in re.finditer(r"\bfn (\w+)", text):
+            if plain(m[1]) == plain(name):
+                return m[1]
+    return name
+
+
+def parameters(crate, name):
+    for text in sources(crate):
+        m = re.search(r"\bfn " + name + r"\b[^(]*\((.*?)\)\s*(->|requires|ensures|\{)", text, re.S)
+        if m:
+            return re.findall(r"(\w+)\s*:", m[1])
     return []
 
 
@@ -279,7 +341,7 @@ def turn(path, fn, root, recursive, ensured):
             continue
         if need and ".Need-" in first + (body.split("\n")[1] if "\n" in body else "") + (body.split("\n")[2] if body.count("\n") > 1 else "") and re.search(r"\n" + re.escape(name) + r"\b", "\n" + body.split("\n", 1)[1] if "\n" in body else ""):
             old = need[1]
-            got = fn.needs.get(plain(old)) or fn.needs.get(plain(re.sub(r"^overflow-", "", old)))
+            got = fn.needs.get(plain(old)) or fn.needs.get(plain(re.sub(r"^overflow-", "", old))) or fn.needs.get(plain(name))
             eq = re.search(r"(?ms)^((?:unfolding [^\n]*\n)?)" + re.escape(name) + r"((?: " + NAME + r")*?) =(.*)$", body[len(name) :])
             if not eq:
                 todo.append(body)
@@ -298,13 +360,22 @@ def turn(path, fn, root, recursive, ensured):
             turned = answer(fn, place, right, c, functions, shared, new)
             rest = " ".join(args[:-1] + ["c"])
             goal = new
-            if goal.startswith("returns") and len(ensured) > 1:
-                turned = as_record(turned, ensured)
+            names = fn.asked.get(plain(old)) or (ensured if goal.startswith("returns") else [])
+            if len(names) > 1:
+                turned = as_record(turned, names)
             answers[goal] = ("\n".join(comment + [f"pub {goal} : goal.{goal}"] + ([eq[1].rstrip()] if eq[1] else []) + [f"{goal} {rest} ={turned}"]))
             continue
-        am = re.match(r"abbrev (" + NAME + r") : tie\.(" + NAME + r") → tie\.(" + NAME + r")\s*\n\1 (" + NAME + r") = ([^\n]*)$", body)
+        am = re.match(r"(?:abbrev )?(" + NAME + r") : tie\.(" + NAME + r")(?: [^\n→]*)? →\s+tie\.(" + NAME + r")(?: [^\n→]*)?\s*\n\1 (" + NAME + r") =\s*([^\n]*)$", body)
         if am:
             functions.add(am[1])
+            continue
+        if re.search(r": (ℕ → )?(In|Measures) 1 ", body):
+            measure = re.search(r"(?m)^μ-(" + NAME + r") κs (" + NAME + r") = (.*)$", body)
+            if measure:
+                which = source_name(crate_of(path), measure[1])
+                params = parameters(crate_of(path), which)
+                text_of = re.sub(r"\b" + measure[2] + r"\.0\b", "l." + params[0], measure[3]) if params else "TURN"
+                invariants.append(f"abbrev pub decreases-{which} : goal.decreases-{which}\ndecreases-{which} l = {text_of}")
             continue
         hm = re.search(r"\((" + NAME + r") : (?:tie|" + NAME + r"lts)\.(" + NAME + r")(?: [^()]*)?\)", body)
         if hm and plain(hm[2]) in fn.by_plain:
@@ -312,15 +383,16 @@ def turn(path, fn, root, recursive, ensured):
             shared[name] = at
             sig, eq = re.match(r"(.*?)(\n(?:unfolding [^\n]*\n)?" + re.escape(name) + r"\b.*)$", body, re.S).groups()
             sig = sig.replace(hm[0], "\0")
-            sig = answer(fn, at, sig, hm[1], functions, shared)
+            sig = answer(fn, at, sig, hm[1], functions, shared, fn.new_place[at])
             sig = sig.replace("\0", f"(c : {fn.new_place[at]})")
             em = re.match(r"(?s)(\n(?:unfolding [^\n]*\n)?)" + re.escape(name) + r"((?: " + NAME + r")*?) =(.*)$", eq)
             if em:
                 args = em[2].split()
                 b = args[0] if args else "c"
                 args[:1] = ["c"]
-                body = sig + em[1] + name + " " + " ".join(args) + " =" + answer(fn, at, em[3], b, functions, shared)
-            uses.append(f"use GOALS.{{{fn.new_place[at]}}}")
+                body = sig + em[1] + name + " " + " ".join(args) + " =" + answer(fn, at, em[3], b, functions, shared, fn.new_place[at])
+            line = f"use GOALS.{{{fn.new_place[at]}}}"
+            uses += [line] if line not in uses else []
         helpers.append("\n".join(comment + [body]))
     return head, uses, invariants, answers, helpers, todo
 
@@ -388,6 +460,11 @@ def main():
             print(f"{path}: no names")
             continue
         fn = Function(rows[keys[0]])
+        fn.idents = {}
+        for text in sources(crate):
+            for word in re.findall(r"\b[a-z_]+[a-z0-9_]*\b", text):
+                if "_" in word:
+                    fn.idents.setdefault(plain(word), word)
         head, uses, invariants, answers, helpers, todo = turn(path, fn, crate, recursive, clause_names(crate, where, "ensures"))
         module = f"Rattle.{crate}.proofs.{dotted}"
         uses = [u.replace("GOALS", module + ".Goals") for u in uses]

@@ -18,8 +18,7 @@ fn compared_number(difference: Difference) -> u64
     }
 }
 
-#[unsafe(no_mangle)]
-pub extern "C" fn bench_verify(ring: &[u8], file: &[u8]) -> u64
+pub fn bench_verify(ring: &[u8], file: &[u8]) -> u64
     ensures { result ≡ verified_number (verified ring.now file.now) % 2 ^ 64 }
 {
     match verify(ring, file) {

@@ -73,8 +73,7 @@ fn recorded_number(recorded: Recorded) -> u32
     }
 }
 
-#[unsafe(no_mangle)]
-pub extern "C" fn bench_read(ring: &[u8], record: &mut [u8], out: &mut [u8]) -> u32
+pub fn bench_read(ring: &[u8], record: &mut [u8], out: &mut [u8]) -> u32
     ensures answer { result ≡ (read_call ring.now «record».old out.old).answer }
     ensures kept { «record».new ≡ (read_call ring.now «record».old out.old).kept }
     ensures bytes { out.new ≡ (read_call ring.now «record».old out.old).out }
@@ -89,8 +88,7 @@ pub extern "C" fn bench_read(ring: &[u8], record: &mut [u8], out: &mut [u8]) -> 
     answer_number(read_answer(reading))
 }
 
-#[unsafe(no_mangle)]
-pub extern "C" fn bench_swap(old: &mut [u8], new: &mut [u8], record: &mut [u8]) -> u32
+pub fn bench_swap(old: &mut [u8], new: &mut [u8], record: &mut [u8]) -> u32
     ensures answer { result ≡ (swap_call old.old new.old «record».old).answer }
     ensures left { old.new ≡ (swap_call old.old new.old «record».old).old }
     ensures made { new.new ≡ (swap_call old.old new.old «record».old).new }
@@ -114,8 +112,7 @@ pub extern "C" fn bench_swap(old: &mut [u8], new: &mut [u8], record: &mut [u8]) 
     emitted_number(outcome)
 }
 
-#[unsafe(no_mangle)]
-pub extern "C" fn bench_record(ring: &[u8], placed: u64, out: &mut [u8]) -> u32
+pub fn bench_record(ring: &[u8], placed: u64, out: &mut [u8]) -> u32
     ensures answer { result ≡ (record_call ring.now placed out.old).answer }
     ensures bytes { out.new ≡ (record_call ring.now placed out.old).out }
 {

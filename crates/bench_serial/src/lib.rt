@@ -50,8 +50,7 @@ fn least(a: usize, b: usize) -> usize
     b
 }
 
-#[unsafe(no_mangle)]
-pub extern "C" fn bench_listen(file: &[u8], size: u64) -> u64
+pub fn bench_listen(file: &[u8], size: u64) -> u64
     ensures { result ≡ listened size file.now }
 {
     let most = piece_size(size, file.len());

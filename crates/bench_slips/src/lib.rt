@@ -33,8 +33,7 @@ fn confirm_answer(confirming: Confirming) -> BenchAnswer
     }
 }
 
-#[unsafe(no_mangle)]
-pub extern "C" fn bench_copy(ring: &[u8], record: &mut [u8], slip: &mut [u8], out: &mut [u8]) -> u32
+pub fn bench_copy(ring: &[u8], record: &mut [u8], slip: &mut [u8], out: &mut [u8]) -> u32
     ensures answer { result ≡ (copy_call ring.now «record».old slip.old out.old).answer }
     ensures kept { «record».new ≡ (copy_call ring.now «record».old slip.old out.old).kept }
     ensures written { slip.new ≡ (copy_call ring.now «record».old slip.old out.old).slip }
@@ -54,8 +53,7 @@ pub extern "C" fn bench_copy(ring: &[u8], record: &mut [u8], slip: &mut [u8], ou
     answer_number(copy_answer(copying))
 }
 
-#[unsafe(no_mangle)]
-pub extern "C" fn bench_confirm(ring: &[u8], record: &mut [u8], slip: &[u8]) -> u32
+pub fn bench_confirm(ring: &[u8], record: &mut [u8], slip: &[u8]) -> u32
     ensures answer { result ≡ (confirm_call ring.now «record».old slip.now).answer }
     ensures kept { «record».new ≡ (confirm_call ring.now «record».old slip.now).kept }
 {

@@ -7,8 +7,8 @@ ghost use Rattle.events_text.specs.Events.{keeps_on};
 
 use events_text::report::{fresh_showing, goes_on};
 use events_text::{Heard, Showing, Shown, ended_by, show, show_end, show_refusal};
-use libc::{STDERR_FILENO, STDIN_FILENO, STDOUT_FILENO};
-use status::{STATUS_FILENO, digit};
+use status::{STATUS_FILENO, STDERR_FILENO, STDOUT_FILENO, digit};
+use std::io::Read;
 
 // What is known after a read. `more` says that there may be bytes to come.
 #[derive(Clone, Copy)]
@@ -74,10 +74,13 @@ fn write_end(showing: Showing) -> Watched {
     }
 }
 
-fn watch_once(showing: Showing) -> Watched {
+// A read gives what has arrived. One that fails counts as the input's end.
+fn watch_once(rt: &HostRuntime, showing: Showing) -> Watched {
     let mut bytes = [0u8; 4096];
-    let got = libc::read(STDIN_FILENO, &mut bytes);
-    let n = io::count(got, &bytes);
+    let n = match rt.stdin().read(&mut bytes) {
+        Ok(count) => count,
+        Err(_) => 0,
+    };
     if n == 0 {
         return write_end(showing);
     }
@@ -85,12 +88,12 @@ fn watch_once(showing: Showing) -> Watched {
 }
 
 // A proved loop has to end, and nothing says that the input does: the turns are counted down from a number that no run uses up.
-fn watch() -> Heard {
+fn watch(rt: &HostRuntime) -> Heard {
     let mut current = fresh_showing();
     let mut turns = u64::MAX;
     while turns > 0 {
         turns -= 1;
-        let now = watch_once(current);
+        let now = watch_once(rt, current);
         let how = now.how;
         if !now.more {
             return how;
@@ -106,8 +109,8 @@ fn write_refusal() {
     io::write_all(STDERR_FILENO, &out[..count]);
 }
 
-fn main() {
-    let how = watch();
+fn main(rt: HostRuntime) {
+    let how = watch(&rt);
     if let Heard::Refused = how {
         write_refusal();
     }

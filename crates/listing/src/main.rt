@@ -1,10 +1,9 @@
 // Lists the ring on standard input. One byte above the most that a listing takes is read, so that a longer input is seen to be too long.
 #![tactic(auto)]
 
-use libc::{STDIN_FILENO, STDOUT_FILENO};
 use listing_text::listing;
 use refusal_text::Kind;
-use status::{Ended, STATUS_FILENO, digit};
+use status::{Ended, STATUS_FILENO, STDIN_FILENO, STDOUT_FILENO, digit};
 
 fn main() {
     let mut input = [0u8; 40961];

@@ -2,9 +2,8 @@
 ghost use Rattle.std.specs.Prelude.{◌≡◌};
 ghost use Rattle.program.specs.Given.{is_answer, ended_with};
 
-use libc::{STDERR_FILENO, STDOUT_FILENO};
 use refusal_text::Kind;
-use status::{Ended, STATUS_FILENO, digit};
+use status::{Ended, STATUS_FILENO, STDERR_FILENO, STDOUT_FILENO, digit};
 
 fn is_answer(kind: Kind) -> bool
     ensures { result ≡ is_answer kind }

@@ -1,10 +1,10 @@
 // Writes the recording of the ring on standard input. One byte above the longest ring is read, so that a longer input is seen to be too long.
 #![tactic(auto)]
 
-use libc::STDIN_FILENO;
 use program::reply::give;
 use program::room::{recording_room, ring_room};
 use record_file::record_file;
+use status::STDIN_FILENO;
 
 fn main() {
     let mut input = ring_room();

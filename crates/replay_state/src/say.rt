@@ -2,10 +2,10 @@
 use crate::adler::adler32;
 use crate::room::text_room;
 use io::write_all;
-use libc::STDOUT_FILENO;
 use reader_rules::Reader;
 use script::hex::put_hex;
 use slip_rules::Slip;
+use status::STDOUT_FILENO;
 use table::paper_number;
 use table_rules::Refusal;
 use text::decimal::number_text;

@@ -47,17 +47,17 @@ record Read (n : ℕ) (text : List ℕ) (m : ℕ) : Type 0 where
   fits : m < 18446744073709551616
 
 module _ (m : ℕ) where
-  read_on : (n x : ℕ) (xs : List ℕ) (p : Parsed) → digit_on n x ≡ p → read_from p xs ≡ Is m
+  read_on_lem : (n x : ℕ) (xs : List ℕ) (p : Parsed) → digit_on n x ≡ p → read_from p xs ≡ Is m
       → ((k : ℕ) → k < 18446744073709551616 → read_from (Is k) xs ≡ Is m → Read k xs m) → Read n (x ∷ xs) m
-  read_on n x xs Bad e h on = not_bad (sym (stays_bad xs) ∙ h)
-  read_on n x xs (Is k) e h on =
+  read_on_lem n x xs Bad e h on = not_bad (sym (stays_bad xs) ∙ h)
+  read_on_lem n x xs (Is k) e h on =
       let digit = digit_read n x k e in
       let rest = on k digit.fits h in
       record { digits = (digit.low, digit.high, rest.digits); value = rw (← digit.value) rest.value; fits = rest.fits }
 
   read_is : (xs : List ℕ) (n : ℕ) → n < 18446744073709551616 → read_from (Is n) xs ≡ Is m → Read n xs m
   read_is [] n h e = let same : n ≡ m = cc in record { digits = tt; value = same; fits = omega arith }
-  read_is (x ∷ xs) n h e = read_on n x xs (digit_on n x) refl e (read_is xs)
+  read_is (x ∷ xs) n h e = read_on_lem n x xs (digit_on n x) refl e (read_is xs)
 
 module _ (n : ℕ) where
   by_leading : (field : List ℕ) (t : Bool) → leading_zero field ≡ t → 0 < length field → read_number field ≡ Is n

@@ -5,6 +5,13 @@
 ghost use Rattle.std.specs.Prelude.{◌≡◌};
 ghost use Rattle.status.specs.Status.{digit_of};
 
+// The descriptors that a program has open.
+pub const STDIN_FILENO: i32 = 0;
+
+pub const STDOUT_FILENO: i32 = 1;
+
+pub const STDERR_FILENO: i32 = 2;
+
 pub const STATUS_FILENO: i32 = 3;
 
 // With the good answer; with the other answer, or with none.

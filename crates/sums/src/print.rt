@@ -2,9 +2,9 @@
 use emit_rules::Outcome;
 use inspect_rules::Inspected;
 use io::{print_decimal, write_all};
-use libc::STDOUT_FILENO;
 use page::open::open;
 use page_rules::Opened;
+use status::STDOUT_FILENO;
 use table::paper_number;
 use table_rules::Refusal;
 use writer_rules::Writer;

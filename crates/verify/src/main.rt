@@ -2,9 +2,9 @@
 // the longest one has is read: what is longer is then refused, or differs, as the whole of it would.
 #![tactic(auto)]
 
-use libc::STDIN_FILENO;
 use program::reply::give;
 use program::room::{file_room, ring_room};
+use status::STDIN_FILENO;
 use verify_text::verify_text;
 
 const RECORDING_FILENO: i32 = 5;

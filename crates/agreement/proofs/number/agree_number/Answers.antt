@@ -9,8 +9,8 @@ use Rattle.agreement.proofs.number.agree_number.Goals as goal
 
 pub returns-then-get64-value : goal.returns-then-get64-value
 returns-then-get64-value c = let a = c.args in record {
-  count = sym (word_agrees a.value a.bytes.now (λ k. (c.shared_slice_known-1.given k).fits) (omega arith)
-      (sym c.get64.ensures ∙ eqb-true _ _ c.if-get64-value.true));
+  count = sym (word_agrees a.value a.bytes.now (λ k. (c.type_inv.bytes k).fits) (omega arith)
+      (sym c.get64.ensures ∙ c.if-get64-value.true));
   within = (omega arith, omega arith);
 }
 

@@ -5,7 +5,8 @@ usage: python3 tools/turn_edits.py OLDER [--look]      at the top of the reposit
 
 An `old:` text that stands once in OLDER's file is to stand once in today's. A text that still does stays. Any other is turned as the two scripts turned the
 files: names in snake case, `x.f` written tight, `now` and `.entry` of a borrow as `.now`, `.old` and `.new`, paths and operators as today's library has them.
-The `new:` text is turned alike, a name only where today's file doesn't hold it as it was. --look writes nothing. What no rule turns is listed: it is done by
+The `new:` text is turned alike, a name only where today's file doesn't hold it as it was, and so is the law that a line `# breaks: FILE LAW` names: where
+that line names a function's proof, today's goal is written by hand. --look writes nothing. What no rule turns is listed: it is done by
 hand, and what is done stays as it is when this runs again.
 """
 
@@ -152,7 +153,17 @@ def one_edit(edit, older, anywhere):
             continue
         now[path] = now[path].replace(old, new)
         lines[at], lines[under] = "old: " + old, ("new: " + new).rstrip(" ")
-    return "\n".join(lines), left
+    return broken("\n".join(lines), crate), left
+
+
+def broken(text, crate):
+    """The edit's text with its line `# breaks: FILE LAW` as the file has the law today."""
+    said = re.search(r"(?m)^# breaks: (\S+) (\S+)$", text)
+    if not said or not os.path.isfile(f"{crate}/{said[1]}"):
+        return text
+    words = words_of(read(f"{crate}/{said[1]}"))
+    law = next((it for it in (said[2], snake(said[2]), snake(said[2]) + "_lem") if it in words), said[2])
+    return text[: said.start(2)] + law + text[said.end(2) :]
 
 
 def main():

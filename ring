@@ -109,30 +109,37 @@ fi
 # set when the last build began: a file changed since then is newer
 mark=$root/target/ring/$name
 is_built() {
-    [ -x "$root/target/bin/$name" ] && [ -f "$mark" ] && [ -z "$(find "$root/crates" "$root/crates.txt" -newer "$mark" -print -quit)" ]
+    [ -x "$root/crates/$name/out/$name" ] && [ -f "$mark" ] && [ ! "$root/crates.txt" -nt "$mark" ] &&
+        [ -z "$(find "$root/crates" -mindepth 2 -name out -prune -o -newer "$mark" -print -quit)" ]
 }
 
 # The crates that have to be proved: NAME and all below it. Each stands on those above it in crates.txt alone, so one pass from the end meets them all.
 count_crates() {
     tac "$root/crates.txt" | awk -F '[: \t]+' -v name="$name" '
         BEGIN { wanted[name] }
-        { sub(/#.*/, "") }
+        { sub(/#.*/, ""); sub(/ +staticlib/, "") }
         $1 != "" && $1 in wanted { count++; for (i = 2; i <= NF; i++) wanted[$i] }
         END { print count + 0 }'
 }
 
-# progress ALL: of what rt says, each crate that is proved as a line with a count. What a crate is made of is left out (target/log has it); the rest is
-# passed on, so that no error is hidden.
+# progress ALL: of what rt says, each crate that is proved as a line with a count. What a crate is made of is left out; the rest is passed on, so that no
+# error is hidden. Once all is proved rt runs the program, on no input, and what that says is left out too.
 progress() {
-    local line crate count=0
+    local line crate='' count=0
     while IFS= read -r line; do
         case $line in
-        'rt: '*' proved ('*)
-            crate=${line#rt: }
-            count=$((count + 1))
-            echo "ring: $count of $1 proved: ${crate%% *}"
+        'crate '*': modules loaded='*)
+            crate=${line#crate }
+            crate=${crate%%:*}
             ;;
-        'fn '*': proved' | 'struct '*': proved' | 'enum '*': proved' | 'logic /'* | 'logic=proved '* | 'library '* | 'axioms libc: '* | 'linked target='*) ;;
+        'logic=proved '*)
+            count=$((count + 1))
+            echo "ring: $count of $1 proved: $crate"
+            ;;
+        'rt: running out/'*) cat >/dev/null ;;
+        'fn '*': proved' | 'struct '*': proved' | 'enum '*': proved' | 'logic /'* | 'library '* | 'statements '* | 'axioms '* | 'linked target='*) ;;
+        # how rt goes about it
+        'only=0 proved=0' | 'rt: chose --jobs '* | 'rt: '*': begins with what a check kept in '*) ;;
         # said of a crate of rules, and of a proof that took long
         'note: no function with a body is declared'* | *'.antt:'*': note: '*) ;;
         *) printf '%s\n' "$line" ;;
@@ -145,7 +152,7 @@ if ! is_built; then
     echo "ring: proving and building $name, $all crates; from nothing this takes some minutes" >&2
     mkdir -p "$(dirname "$mark")"
     touch "$mark.begun"
-    if ! (cd "$root" && rt check "$name" 2>&1) </dev/null | progress "$all" >&2; then
+    if ! (cd "$root/crates/$name" && rt run 2>&1 >/dev/null) </dev/null | progress "$all" >&2; then
         stop "$name isn't built"
     fi
     mv "$mark.begun" "$mark"

@@ -1,7 +1,9 @@
 #!/usr/bin/env bash
 # Holds every must-fail edit to what it says it breaks. An edit is worth something only if the prover refuses it at a fact: one that merely uses a name
 # that is gone is refused too, in specs/ above all. So each edit has a line `# breaks: PLACE`, and PLACE is compared with where the prover stopped:
-# a file and a declaration of it, or a function and the need of it that no search closes. Reads what `rt ci` leaves in target/must-fail.
+# a file and a declaration of it (a law, or a goal of proofs/F/Answers.antt), or a function and the goal of it that no search closes.
+# usage: tests/edits.sh [LOG]: LOG, or RT_CI_LOG, is what `rt ci` or `rt must-fail` wrote at the top of this tree, with a line for each edit; neither
+# leaves the edits' logs. Without one `rt must-fail` runs, which tries what has changed.
 set -uo pipefail
 cd "$(dirname "$(readlink -f "$0")")/.."
 
@@ -12,37 +14,68 @@ fail() {
     failed=$((failed + 1))
 }
 
-# the first refusal that isn't the mere consequence of another: "FILE DECLARATION" or "FUNCTION NEED"; a missing name is told as such
-refused_at() {
-    awk -v where="$(dirname "$1")/" '
-        /^fn .*: no proof: .*`search` does not close `/ {
-            name = $2; sub(/:$/, "", name); sub(/^[^:]*::/, "", name)
-            need = $0; sub(/.*does not close `/, "", need); sub(/`.*/, "", need)
-            print name " " need; exit
+log=${1:-${RT_CI_LOG:-}}
+if [ -z "$log" ]; then
+    log=$(mktemp)
+    trap 'rm -f "$log"' EXIT
+    rt must-fail >"$log" 2>&1
+fi
+
+# "CRATE/LABEL" and after a tab "FILE DECLARATION" or "FUNCTION GOAL", as rt tells the first refusal that isn't the mere consequence of another; a missing
+# name, a limit and an edit that can't be read are told as such. rt cuts what the prover said: a last word that isn't whole ends in `…`.
+refusals() {
+    awk '
+        # the function that has this line: MODULE::NAME, as rt names it
+        function function_at(crate, file, line,    path, text, at, name, module) {
+            path = "crates/" crate "/" file
+            while (at < line && (getline text < path) > 0) {
+                at++
+                if (match(text, /(^|[ (])fn [A-Za-z0-9_]+/)) { name = substr(text, RSTART, RLENGTH); sub(/.*fn /, "", name) }
+            }
+            close(path)
+            module = file; sub(/^src\//, "", module); sub(/\.rt$/, "", module); gsub(/\//, "::", module)
+            return (module == "lib" || module == "main" ? "" : module "::") name
         }
-        / error: / && !/was not admitted/ {
-            place = $1; i = index(place, where)
-            if (i) place = substr(place, i + length(where))
-            sub(/:[0-9]+:[0-9]+:$/, "", place)
-            declared = $0; sub(/.*: error: `/, "", declared); sub(/`.*/, "", declared)
-            print (/not in scope|can be named from here|no module, record or data type/ ? "a missing name in " : "") place " " declared; exit
-        }' "$1"
+        function goal_in(text) {
+            return sub(/`.*/, "", text) ? text : text "…"
+        }
+        /^rt: must-fail [^ ]+\.edit: / {
+            edit = $3; sub(/\.edit:$/, "", edit)
+            crate = edit; sub(/\/.*/, "", crate)
+            said = $0; sub(/^rt: must-fail [^ ]+\.edit: /, "", said)
+            if (said !~ /^refused, as it must be: /) { print edit "\t" said; next }
+            sub(/^refused, as it must be: /, "", said)
+            is_note = sub(/^note: /, "", said)
+            place = said; sub(/ .*/, "", place); sub(/^\.\//, "", place)
+            split(place, part, ":")
+            if (is_note && said ~ /not proved that/) {
+                goal = said; if (!sub(/^[^`]*\(`/, "", goal)) sub(/.*/, "", goal)
+                print edit "\t" function_at(crate, part[1], part[2]) " " goal_in(goal); next
+            }
+            declared = said; sub(/^[^`]*: error: `/, "", declared)
+            missing = said ~ /not in scope|can be named from here|no module, record or data type|has no field/
+            print edit "\t" (missing ? "a missing name in " : "") part[1] " " goal_in(declared)
+        }' "$log"
 }
+
+declare -A at=()
+while IFS=$'\t' read -r edit place; do
+    at[$edit]=$place
+done < <(refusals)
 
 for edit in crates/*/must-fail/*.edit; do
     crate=${edit#crates/}
-    crate=${crate%%/*}
-    label=$(basename "$edit" .edit)
-    log=target/must-fail/$crate/$label/.log
+    label=${crate%%/*}/$(basename "$edit" .edit)
     said=$(sed -n 's/^# breaks: //p' "$edit")
     tried=$((tried + 1))
     [ -n "$said" ] || { fail "$edit doesn't say what it breaks"; continue; }
-    [ -f "$log" ] || { fail "$edit was not tried"; continue; }
-    at=$(refused_at "$log")
-    case $at in
-    specs/*) fail "$edit is refused in its own definitions, at $at" ;;
+    found=${at[$label]:-}
+    [ -n "$found" ] || { fail "$edit was not tried"; continue; }
+    case $found in
+    specs/*) fail "$edit is refused in its own definitions, at $found" ;;
     "$said") ;;
-    *) fail "$edit says that it breaks $said, and is refused at ${at:-no place}" ;;
+    *…) [[ $said == "${found%…}"* ]] || fail "$edit says that it breaks $said, and is refused at $found" ;;
+    *) fail "$edit says that it breaks $said, and is refused at $found" ;;
     esac
 done
 

@@ -1,5 +1,5 @@
 #!/usr/bin/env bash
-# Plays each stored script on the program replay, which must be built (rt check replay), and compares with the answers of the second implementation.
+# Plays each stored script on the program replay, which must be built (rt ci, or rt run in its folder), and compares with the answers of the second implementation.
 # Then the longest script, one byte more than that, and the stored set made again.
 set -uo pipefail
 tests=$(dirname "$(readlink -f "$0")")

@@ -1,6 +1,6 @@
 #!/usr/bin/env bash
 # Runs ./ring as people run it, by mistake too, and compares its status and what it writes to standard output and standard error.
-# It is run in a copy that holds the built programs (rt check), in a folder with a space in its name, so that nothing is proved here and no mark of a
+# It is run in a copy that holds the built programs (rt ci), in a folder with a space in its name, so that nothing is proved here and no mark of a
 # build is left in the tree.
 set -uo pipefail
 cd "$(dirname "$(readlink -f "$0")")/.."
@@ -27,12 +27,12 @@ try() {
     diff <(printf '%s' "${4:+$4$'\n'}") "$work/errors" >&2 || fail "$1: other words on standard error"
 }
 
-export kit logs=$PWD/target/log
+export kit
 if ! kit=$(command -v rt); then
     echo "ring: there is no rt on the PATH" >&2
     exit 1
 fi
-mkdir -p "$copy/tests" "$copy/examples" "$copy/target/bin" "$copy/target/ring" "$copy/crates/word/src"
+mkdir -p "$copy/tests" "$copy/examples" "$copy/target/ring" "$copy/crates/word/src"
 cp ring "$copy"
 cp tests/run-program "$copy/tests"
 cp examples/*.ring "$copy/examples"
@@ -40,11 +40,11 @@ cp examples/start.ring "$copy/the first start.ring"
 cp tests/record/start.spl "$copy"
 cp tests/events/header-size.spl "$copy/faulty.spl"
 for name in events listing record replay sums verify; do
-    if ! cp "target/bin/$name" "$copy/target/bin"; then
+    mkdir -p "$copy/crates/$name/out" "$copy/crates/$name/src"
+    if ! cp "crates/$name/out/$name" "$copy/crates/$name/out"; then
         echo "ring: $name isn't built" >&2
         exit 1
     fi
-    mkdir -p "$copy/crates/$name/src"
 done
 echo '// Shows a recording' >"$copy/crates/events/src/main.rt"
 echo '// Lists a ring. This is not shown.' >"$copy/crates/listing/src/main.rt"
@@ -61,7 +61,8 @@ word: word_rules
 text: word
 
 table: table_rules
-listing: text io libc
+word_c staticlib: word
+listing: text io
 END
 touch "$copy"/target/ring/{events,listing,record,replay,sums,verify}
 
@@ -232,14 +233,41 @@ mkdir "$work/tools"
 ln -s "$(command -v bash)" "$(command -v dirname)" "$(command -v readlink)" "$work/tools"
 try 'no kit' 2 '' 'ring: the Rattle kit is missing: there is no rt on the PATH' 'PATH=$work/tools ./ring listing examples/start.ring'
 
-# Building, with an rt that says what the kit's own said when it last proved these crates. It reads what it is given, which mustn't be the program's
-# input, and wants to stand where crates.txt is, as the kit's does.
+# Building, with an rt that says what the kit's own says of such crates, to standard error, and then runs the program, which speaks to both. It reads what
+# it is given, which mustn't be the program's input, and wants to stand in the program's folder, as the kit's does.
 mkdir "$work/bin"
 cat >"$work/bin/rt" <<'END'
 #!/usr/bin/env bash
-case $* in
-'check listing') cat >/dev/null && [ -f crates.txt ] && cd "$logs" && cat word_rules.out word.out text.out listing.out ;;
-check*) echo "rt: $2 NOT PROVED (exit 1, 2 s)" >&2 && exit 1 ;;
+proves() { # CRATE FUNCTION..
+    local one
+    echo "rt: chose --jobs 2 for $1"
+    [ $# -ne 1 ] || echo 'note: no function with a body is declared, so nothing was lowered'
+    for one in "${@:2}"; do
+        echo "fn $1::$one: proved"
+    done
+    echo 'logic /opt/rattle/rattle/logic/antt-project.json: libraries=16 files=2756 sum=dac8208d650f15bf3e2dc313a14fa4c783a3acf887bdfab66e1714b038d9e11b'
+    echo 'statements core: modules loaded=222 checked=0'
+    [ $# -eq 1 ] || echo 'library word_rules: modules loaded=13 checked=0'
+    echo "crate $1: modules loaded=0 checked=64"
+    [ "$1" != listing ] || echo 'axioms libc: libc::read, libc::write (2 of the 128 declared)'
+    echo 'logic=proved functions=2 sum=dac8208d650f15bf native=nat,char,string logic-built=trusted libraries-built=trusted statements=trusted incremental=trusted'
+}
+case "$* in ${PWD##*/}" in
+'run in listing')
+    cat >/dev/null && [ -f ../../crates.txt ] && {
+        echo 'statements core: modules loaded=0 checked=0'
+        echo 'only=0 proved=0'
+        echo 'rt: word_rules: begins with what a check kept in /a pool/crates/word_rules'
+        proves word_rules
+        proves word number::get16 run::copy
+        proves text decimal::number_text
+        proves listing main
+        echo 'linked target=x86_64-unknown-linux-gnu loader=/lib64/ld-linux-x86-64.so.2 files=out/listing.o'
+        echo 'rt: running out/listing; to give it other input, run that file yourself'
+        echo 'the program speaks'
+    } >&2 && echo 'refused 1'
+    ;;
+'run in '*) echo 'rt: the library word did not build, so nothing above it was checked' >&2 && exit 1 ;;
 *) exec "$kit" "$@" ;;
 esac
 END
@@ -257,7 +285,7 @@ try 'the second run' 0 "$start" '' './ring listing examples/start.ring'
 try 'changed code' 0 "$start" "$built" 'touch crates/word/src/lib.rt && ./ring listing examples/start.ring'
 echo 'sums: word' >>"$copy/crates.txt"
 not_built="ring: proving and building sums, 3 crates; $begins
-rt: sums NOT PROVED (exit 1, 2 s)
+rt: the library word did not build, so nothing above it was checked
 ring: sums isn't built"
 try 'not proved' 2 '' "$not_built" './ring sums'
 try 'not proved, again' 2 '' "$not_built" './ring sums'

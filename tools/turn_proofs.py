@@ -90,6 +90,8 @@ def resolve(fn, place, fields, base=None):
                             return ["c", arm, f] + rest[1 + len(path) :], None
             if plain(old) in fn.typed and rest[1:2] == ["given"]:
                 return ["c", "type_inv", fn.typed[plain(old)]] + rest[2:], None
+            if re.match(r"if\d", old) and rest[1:2] in (["left"], ["taken"]):
+                rest[1] = "false" if rest[1] == "left" else "true"
             names = fn.clauses.get(p)
             if names and rest[1:2] == ["ensures"] and len(rest) > 2 and rest[2].isdigit() and int(rest[2]) < len(names):
                 return ["c", new, "ensures", names[int(rest[2])]] + rest[3:], None
@@ -117,6 +119,8 @@ def answer(fn, place, body, binder="c", functions={}, shared={}, goal=None):
     pattern = re.compile(r"\blet (" + NAME + r") = (" + NAME + r"(?:\." + NAME + r")*) in[ \n]*|(?<![\w.])(" + NAME + r")((?:\." + NAME + r")+)|(?<![\w.-])(" + NAME + r")(?![\w-])")
     text = body
     # helper functions between places: (start c.before).args
+    for f in functions:
+        text = re.sub(r"\blet (" + NAME + r") = " + re.escape(f) + r" (" + NAME + r"(?:\." + NAME + r")*) in", r"let \1 = \2 in", text)
     changed = True
     while changed:
         changed = False
@@ -165,7 +169,12 @@ def answer(fn, place, body, binder="c", functions={}, shared={}, goal=None):
             result.append(whole("".join(result), aliases[m[5]]))
         else:
             result.append(m[0])
-    text = re.sub(r"(?:not-true|not-false) _ (\(?(?:sym c\.[\w.-]+ ∙ )?c\.if-not-[\w.-]+)", r"\1", "".join(result))
+    calls = {fn.step[p[0]][1] for p in fn.row["places"] if p[3]}
+
+    def negated(m):
+        return m[1] if re.search(r"\.if-not-([\w-]+)", m[1])[1] in calls else m[0]
+
+    text = re.sub(r"(?:not-true|not-false) _ (\(?(?:sym c\.[\w.-]+ ∙ )?c\.if-not-[\w-]+)", negated, "".join(result))
     return source_fields(text, fn)
 
 

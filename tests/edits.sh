@@ -49,7 +49,7 @@ refusals() {
             place = said; sub(/ .*/, "", place); sub(/^\.\//, "", place)
             split(place, part, ":")
             if (is_note && said ~ /not proved that/) {
-                goal = said; if (!sub(/^[^`]*\(`/, "", goal)) sub(/.*/, "", goal)
+                goal = said; if (!sub(/.*\(`/, "", goal)) goal = ""
                 print edit "\t" function_at(crate, part[1], part[2]) " " goal_in(goal); next
             }
             declared = said; sub(/^[^`]*: error: `/, "", declared)

@@ -18,6 +18,8 @@ while read -r line; do
     line=${line%%#*}
     [ -n "${line// /}" ] || continue
     name=${line%%:*}
+    # a static library says so behind its name
+    name=${name%% *}
     below=${line#*:}
     for crate in $below; do
         # what isn't under crates/ is a library of the kit

@@ -14,7 +14,7 @@ fail() {
 
 while IFS=: read -r file line _; do
     fail "$file:$line is longer than 200 characters"
-done < <(grep -rnE '^.{201,}' --include='*.antt' --include='*.rt' crates)
+done < <(grep -rnE '^.{201,}' --exclude-dir=out --include='*.antt' --include='*.rt' crates)
 
 proofs=0
 while IFS= read -r file; do

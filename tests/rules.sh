@@ -85,7 +85,7 @@ done < <(find crates/*/specs crates/*/src crates/*/proofs tests/second/src tests
 
 while IFS= read -r where; do
     fail "$where names the paper that isn't here; cite a paragraph"
-done < <(grep -rniE 'document[ -]0?1([^0-9]|$)' --exclude-dir=target --exclude=rules.sh crates tests docs bench include README.md CONTRIBUTING.md | cut -d: -f1,2)
+done < <(grep -rniE 'document[ -]0?1([^0-9]|$)' --exclude-dir=target --exclude-dir=out --exclude=rules.sh crates tests docs bench include README.md CONTRIBUTING.md | cut -d: -f1,2)
 
 if [ "$failed" -ne 0 ]; then
     exit 1

@@ -42,7 +42,7 @@ done < <(grep -oE '`[A-Za-z_]+/[A-Za-z0-9_./]+\.(antt|rt|sh|h)`' "$page" | tr -d
 # `theorem : Statement` (`file`
 while read -r theorem file; do
     grep -qE "^ *pub $theorem :" "crates/$file" 2>/dev/null || fail "$theorem isn't proved in $file"
-done < <(grep -oE '`[a-z0-9-]+ : [^`]+` \(`[A-Za-z_]+/proofs/[A-Za-z0-9]+\.antt`' "$page" | sed -E 's/`([a-z0-9-]+) : [^`]+` \(`(.*)`/\1 \2/')
+done < <(grep -oE '`[a-z0-9_]+ : [^`]+` \(`[A-Za-z_]+/proofs/[A-Za-z0-9]+\.antt`' "$page" | sed -E 's/`([a-z0-9_]+) : [^`]+` \(`(.*)`/\1 \2/')
 
 for edit in crates/*/must-fail/*.edit; do
     grep -q "\`$(basename "$edit" .edit)\`" "$page" || grep -q "/$(basename "$edit" .edit)\`" "$page" || fail "$edit is not listed"

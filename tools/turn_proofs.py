@@ -33,6 +33,7 @@ class Function:
                 self.new_place[p] = whole
         self.needs = {plain(old): (new, row["asked_at"][i][0]) for i, (old, new) in enumerate(row["needs"])}
         self.by_plain = {plain(p): p for p in self.parent}
+        self.callee = {q[0]: q[3] for q in row["places"]}
         self.clauses = {q[0]: c["fields"] for q, c in zip(row["places"], row["clauses"]) if c}
         self.names_at = {self.step[p][1]: names for p, names in self.clauses.items()}
         self.asked = {plain(old): names for old, names in row["asked"].items()}
@@ -57,6 +58,18 @@ class Function:
         return c[n] if n < len(c) else None
 
 
+def clause(names, path):
+    """The path into clauses that were a tuple, by their names."""
+    k = 0
+    while k < len(names) - 1 and k < len(path) and path[k] == "1":
+        k += 1
+    if k < len(names) - 1:
+        if path[k : k + 1] != ["0"]:
+            return path
+        return [names[k]] + path[k + 1 :]
+    return [names[k]] + path[k:]
+
+
 STARTS = {"args", "requires", "ranges", "lifetimes", "ghost"}
 
 
@@ -70,11 +83,13 @@ def resolve(fn, place, fields, base=None):
     if not rest:
         return None, here or fn.chain(place)[-1]
     head = rest[0]
+    if head == "pre":
+        head = rest[0] = "requires"
     if head in STARTS:
         pre = fn.row["pre"]
         names = pre.get("fields") if isinstance(pre, dict) else pre
-        if head == "requires" and names and len(rest) > 1 and rest[1].isdigit() and int(rest[1]) < len(names):
-            return ["c", head, names[int(rest[1])]] + rest[2:], None
+        if head == "requires" and names and len(rest) > 1 and rest[1].isdigit():
+            return ["c", head] + clause(names, rest[1:]), None
         return ["c"] + rest, None
     # the place's own step, or the next one further back that has this name
     order = fn.chain(here) if here else []
@@ -92,9 +107,16 @@ def resolve(fn, place, fields, base=None):
                 return ["c", "type_inv", fn.typed[plain(old)]] + rest[2:], None
             if re.match(r"if\d", old) and rest[1:2] in (["left"], ["taken"]):
                 rest[1] = "false" if rest[1] == "left" else "true"
+            if rest[1:2] == ["new"] and len(rest) > 2 and rest[2].isdigit():
+                k = 0
+                while k + 2 < len(rest) and rest[k + 2] == "1":
+                    k += 1
+                params = fn.row["params"].get(fn.callee.get(p), [])
+                if k < len(params) and rest[k + 2 : k + 3] == ["0"]:
+                    rest[2 : k + 3] = [params[k]]
             names = fn.clauses.get(p)
-            if names and rest[1:2] == ["ensures"] and len(rest) > 2 and rest[2].isdigit() and int(rest[2]) < len(names):
-                return ["c", new, "ensures", names[int(rest[2])]] + rest[3:], None
+            if names and rest[1:2] == ["ensures"] and len(rest) > 2 and rest[2].isdigit():
+                return ["c", new, "ensures"] + clause(names, rest[2:]), None
             return ["c", new] + rest[1:], None
     return ["c", "TURN_" + head] + rest[1:], None
 
@@ -130,6 +152,8 @@ def answer(fn, place, body, binder="c", functions={}, shared={}, goal=None):
             if m:
                 text = text[: m.start()] + binder + text[m.end() :]
                 changed = True
+    for f in functions:
+        text = re.sub(r"\blet (" + NAME + r") = " + re.escape(f) + r" (" + NAME + r"(?:\." + NAME + r")*) in", r"let \1 = \2 in", text)
     result = []
     while pos < len(text):
         m = pattern.search(text, pos)
@@ -154,10 +178,16 @@ def answer(fn, place, body, binder="c", functions={}, shared={}, goal=None):
             # not ours: leave the text, but look again behind `let NAME = `
             result.append(m[0])
             continue
+        if m[5] and re.search(r"λ \(?$", "".join(result)[-4:]):
+            result.append(m[0])
+            continue
+        if (m[3] or m[5]) and re.search(r"λ \(?[^.]*(?<![\w-])" + re.escape(m[3] or m[5]) + r"(?![\w-])[^.]*\.[^∙]*$", "".join(result)[-160:]):
+            result.append(m[0])
+            continue
         if m[3]:
             steps = m[4][1:].split(".")
-            if named.get(m[3]) and steps[0].isdigit() and int(steps[0]) < len(named[m[3]]):
-                result.append(".".join([m[3], named[m[3]][int(steps[0])]] + steps[1:]))
+            if named.get(m[3]) and steps[0].isdigit():
+                result.append(".".join([m[3]] + clause(named[m[3]], steps)))
                 continue
             if m[3] in aliases:
                 path, at = resolve(fn, aliases[m[3]], m[4][1:].split("."), place)
@@ -217,11 +247,27 @@ def as_record(text, names):
             continue
         while len(got) < len(names) and parts(got[-1]):
             got = got[:-1] + parts(got[-1])
+        while len(got) < len(names) and re.fullmatch(r"[\w.-]+", got[-1]):
+            got = got[:-1] + [got[-1] + ".0", got[-1] + ".1"]
         if len(got) > len(names):
             got = got[: len(names) - 1] + ["(" + ", ".join(got[len(names) - 1 :]) + ")"]
         if len(got) == len(names):
             return text[: m.start()] + "record { " + "; ".join(f"{n} = {g}" for n, g in zip(names, got)) + " }"
-    return text
+    # what is no tuple gives one
+    depth, cut = 0, 0
+    for m in re.finditer(r"[({\[\])}]|\bin\b", text):
+        if m[0] in "({[":
+            depth += 1
+        elif m[0] in ")}]":
+            depth -= 1
+        elif depth == 0:
+            cut = m.end()
+    end = text[cut:].strip()
+    if end.startswith("record"):
+        return text
+    last = len(names) - 1
+    fields = "; ".join(f"{n} = h" + ".1" * i + ".0" * (i < last) for i, n in enumerate(names))
+    return text[:cut].rstrip() + f"\n    let h = {end} in\n    record {{ {fields} }}"
 
 
 def clause_names(crate, where, kind):
@@ -385,6 +431,15 @@ def turn(path, fn, root, recursive, ensured):
                 params = parameters(crate_of(path), which)
                 text_of = re.sub(r"\b" + measure[2] + r"\.0\b", "l." + params[0], measure[3]) if params else "TURN"
                 invariants.append(f"abbrev pub decreases-{which} : goal.decreases-{which}\ndecreases-{which} l = {text_of}")
+            continue
+        vm = re.match(r"abbrev (" + NAME + r") : tie\.(" + NAME + r")(?: [^\n→]*)? → ([^\n]*)\n\1 (" + NAME + r") = (.*)$", body, re.S)
+        if vm and plain(vm[2]) in fn.by_plain:
+            at = fn.by_plain[plain(vm[2])]
+            shared[name] = at
+            line = f"use GOALS.{{{fn.new_place[at]}}}"
+            uses += [line] if line not in uses else []
+            text_of = answer(fn, at, vm[5], vm[4], functions, shared, fn.new_place[at])
+            helpers.append("\n".join(comment + [f"abbrev {name} : {fn.new_place[at]} → {vm[3]}", f"{name} c = {text_of}"]))
             continue
         hm = re.search(r"\((" + NAME + r") : (?:tie|" + NAME + r"lts)\.(" + NAME + r")(?: [^()]*)?\)", body)
         if hm and plain(hm[2]) in fn.by_plain:

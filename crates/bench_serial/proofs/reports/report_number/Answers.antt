@@ -1,0 +1,27 @@
+-- Each arm's number is that of the report which it matched.
+use Rattle.std.proofs.Common.{ℕ, ◌+◌, ◌%◌, ◌^◌, refl, ap, ◌∙◌, arith}
+use Rattle.bench_serial.proofs.Numbers.{nothing_number, refused_number, head_number, kept_number, stretch_number, counts_number, fault_number_lem}
+use Rattle.bench_serial.proofs.reports.report_number.Goals as goal
+
+pub returns-in-Nothing : goal.returns-in-Nothing
+returns-in-Nothing c = nothing_number _ _ _ 0 c.in-Nothing.is refl
+
+pub returns-in-Head : goal.returns-in-Head
+returns-in-Head c = head_number _ _ _ c.get64.result c.in-Head.is (omega arith) c.get64.ensures
+
+pub returns-in-KeptHead : goal.returns-in-KeptHead
+returns-in-KeptHead c = kept_number _ _ _ c.get64-in-KeptHead.result c.in-KeptHead.is (omega arith) c.get64-in-KeptHead.ensures
+
+pub returns-in-Stretch : goal.returns-in-Stretch
+returns-in-Stretch c = stretch_number _ _ _ c.wrapping_add_u64.result _ _ c.in-Stretch.is c.wrapping_add_u64.ensures
+
+pub returns-in-Counts : goal.returns-in-Counts
+returns-in-Counts c = counts_number _ _ _ c.wrapping_add_u64-in-Counts.result _ _ c.in-Counts.is c.wrapping_add_u64-in-Counts.ensures
+
+pub returns-in-Fault : goal.returns-in-Fault
+returns-in-Fault c = let fault = c.report-in-Fault-1.given in
+    fault_number_lem _ _ _ c.wrapping_add_u64-in-Fault.result _ _ fault.1
+    (c.wrapping_add_u64-in-Fault.ensures ∙ ap (λ (n : ℕ). (n + fault.0.1.0) % 2 ^ 64) c.TURN_fault_number_lem.ensures)
+
+pub returns-in-Refused : goal.returns-in-Refused
+returns-in-Refused c = refused_number _ _ _ 0 c.in-Refused.is refl

@@ -11,4 +11,4 @@ loop-at-preserved c = listens_on _ _ _ _ _ _ c.loop-at.invariant _ _ c.piece_siz
 
 pub returns : goal.returns
 returns c = listens_end _ _ _ _ _ _ c.loop-at.invariant _ _ _ c.loop-at-test.false c.end-ending.ensures c.end_number.ensures
-    c.wrapping_add_u64.ensures
+    c.wrapping_add_u64.ensures.value

@@ -13,15 +13,14 @@ pub returns-in-KeptHead : goal.returns-in-KeptHead
 returns-in-KeptHead c = kept_number _ _ _ c.get64-in-KeptHead.result c.in-KeptHead.is (omega arith) c.get64-in-KeptHead.ensures
 
 pub returns-in-Stretch : goal.returns-in-Stretch
-returns-in-Stretch c = stretch_number _ _ _ c.wrapping_add_u64.result _ _ c.in-Stretch.is c.wrapping_add_u64.ensures
+returns-in-Stretch c = stretch_number _ _ _ c.wrapping_add_u64.result _ _ c.in-Stretch.is c.wrapping_add_u64.ensures.value
 
 pub returns-in-Counts : goal.returns-in-Counts
-returns-in-Counts c = counts_number _ _ _ c.wrapping_add_u64-in-Counts.result _ _ c.in-Counts.is c.wrapping_add_u64-in-Counts.ensures
+returns-in-Counts c = counts_number _ _ _ c.wrapping_add_u64-in-Counts.result _ _ c.in-Counts.is c.wrapping_add_u64-in-Counts.ensures.value
 
 pub returns-in-Fault : goal.returns-in-Fault
-returns-in-Fault c = let fault = c.report-in-Fault-1.given in
-    fault_number_lem _ _ _ c.wrapping_add_u64-in-Fault.result _ _ fault.1
-    (c.wrapping_add_u64-in-Fault.ensures ∙ ap (λ (n : ℕ). (n + fault.0.1.0) % 2 ^ 64) c.TURN_fault_number_lem.ensures)
+returns-in-Fault c = fault_number_lem _ _ _ c.wrapping_add_u64-in-Fault.result _ _ c.in-Fault.is
+    (c.wrapping_add_u64-in-Fault.ensures.value ∙ ap (λ (n : ℕ). (n + _) % 2 ^ 64) c.fault_number.ensures)
 
 pub returns-in-Refused : goal.returns-in-Refused
 returns-in-Refused c = refused_number _ _ _ 0 c.in-Refused.is refl

@@ -15,4 +15,4 @@ overflow_add-at c = omega (arith, within (goal.at.overflow_add-at c).After-strid
 
 pub loop-at-preserved : goal.loop-at-preserved
 loop-at-preserved c = runs_on _ _ _ _ _ _ _ c.loop-at.invariant _ c.stride-s.ensures _ _ c.loop-at-test.true
-    c.if-used-eq0.false c.stride_number.ensures c.wrapping_add_u64-total.ensures
+    c.if-used-eq0.false c.stride_number.ensures c.wrapping_add_u64-total.ensures.value

@@ -1,6 +1,7 @@
 #!/usr/bin/env bash
-# Holds the crates to what a reader needs: no line is longer than 200 characters, and every file of laws or of a function's proof opens with a
-# comment on how it goes. Lists of files (Lib.antt) have nothing to say.
+# Holds the crates to what a reader needs: no line is longer than 200 characters, and every file of laws and every function's proof opens with a
+# comment on how it goes. A proof of two files, Invariants.antt and Answers.antt, is read in this order, so the first of them says it. Lists of files
+# (Lib.antt) have nothing to say.
 set -uo pipefail
 cd "$(dirname "$(readlink -f "$0")")/.."
 # characters are counted, and not bytes
@@ -19,7 +20,9 @@ done < <(grep -rnE '^.{201,}' --exclude-dir=out --include='*.antt' --include='*.
 proofs=0
 while IFS= read -r file; do
     proofs=$((proofs + 1))
-    [[ $(head -n 1 "$file") == '-- '* ]] || fail "$file doesn't say at its head how it goes"
+    first=$file
+    [[ $file != */Answers.antt ]] || [ ! -f "${file%Answers.antt}Invariants.antt" ] || first=${file%Answers.antt}Invariants.antt
+    [[ $(head -n 1 "$first") == '-- '* ]] || fail "$file doesn't say at its head how it goes"
 done < <(find crates/*/proofs -name '*.antt' ! -name Lib.antt)
 [ "$proofs" -ne 0 ] || fail "there are no proofs"
 

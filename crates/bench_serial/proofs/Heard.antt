@@ -1,5 +1,6 @@
 -- A piece heard from where a step or a stride has come: feeding goes on there (`feed_on`), and the sum has what was told.
-use Rattle.std.proofs.Common.{◌≡◌, ℕ, ◌+◌, ◌-◌, ◌%◌, ◌^◌, ◌<◌, ◌≤◌, Bool, true, false, cond, eqb, ltb, List, [], ◌∷◌, length, take, drop, sym, refl, ap, ◌∙◌, ⊎_elim, mod-lt, mod-eq_of_lt, arith, length-drop, take_all, drop-drop, le-leb}
+use Rattle.std.proofs.Common.{◌≡◌, ℕ, ◌+◌, ◌-◌, ◌%◌, ◌^◌, ◌<◌, ◌≤◌, Bool, true, false, cond, eqb, ltb, List, [], ◌∷◌, length, take, drop, sym, refl, ap, ◌∙◌}
+use Rattle.std.proofs.Common.{⊎_elim, mod-lt, mod-eq_of_lt, arith, length-drop, take_all, drop-drop, le-leb}
 use Rattle.reading_rules.specs.Account.{Told}
 use Rattle.reading_rules.proofs.Cases.{by_test}
 use Rattle.serial_rules.specs.Step.{arrived, possible_at, possible, refused_step, taking, strode, stepped}

@@ -1,5 +1,6 @@
 -- The pieces of a file one by one: what is told in all is told of the first piece and of the rest, by `feed_all`; with enough fuel the pieces are the same.
-use Rattle.std.proofs.Common.{◌≡◌, ℕ, zero, suc, ◌+◌, ◌-◌, ◌%◌, ◌^◌, ◌<◌, ◌≤◌, min, eqb, List, [], ◌∷◌, length, take, drop, sym, refl, ap, ◌∙◌, ⊎_elim, not-suc-le-zero, zero-add, arith, length-drop, take_all, drop-drop}
+use Rattle.std.proofs.Common.{◌≡◌, ℕ, zero, suc, ◌+◌, ◌-◌, ◌%◌, ◌^◌, ◌<◌, ◌≤◌, min, eqb, List, [], ◌∷◌, length, take, drop, sym, refl, ap, ◌∙◌, ⊎_elim}
+use Rattle.std.proofs.Common.{not-suc-le-zero, zero-add, arith, length-drop, take_all, drop-drop}
 use native.Mathlib.Nat.{mod-add-mod, add-mod-mod}
 use Rattle.table_rules.proofs.Tests.{le_or_lt, above_zero}
 use Rattle.reading_rules.proofs.Cases.{by_test}

@@ -19,4 +19,8 @@ long-at c = search rules
 pub returns-then-write_all : goal.returns-then-write_all
 returns-then-write_all c = let a = c.args in
     let says = c.show-shown.ensures.says in
-    record { used_in_bounds = c.show-shown.ensures.used_in_bounds; used_nonzero = λ on some. says_moves _ a.showing a.piece.now c.show-shown.result says (long-at (goal.at.returns-then-write_all c).After-shared_slice_known-1) (omega arith) on some }
+    record {
+      used_in_bounds = c.show-shown.ensures.used_in_bounds;
+      used_nonzero =
+          λ on some. says_moves _ a.showing a.piece.now c.show-shown.result says (long-at (goal.at.returns-then-write_all c).After-shared_slice_known-1) (omega arith) on some;
+    }

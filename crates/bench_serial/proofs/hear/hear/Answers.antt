@@ -2,7 +2,6 @@
 use Rattle.std.proofs.Common.{◌≡◌, ◌+◌, ◌-◌, ◌^◌, ◌<◌, ◌≤◌, length, ◌∙◌, arith, rules}
 use Rattle.bench_serial.proofs.Heard.{Hears, hears_end, hears_within, hears_stuck, hears_whole, hears_on}
 use Rattle.bench_serial.proofs.hear.hear.Goals.{After-step-s, After-stride_on-reached}
-use borrow.Author.Rules.{rules}
 use Rattle.bench_serial.proofs.hear.hear.Goals as goal
 
 -- behind the strides of a turn

@@ -20,7 +20,7 @@ returns-in-Counts c = counts_number _ _ _ c.wrapping_add_u64-in-Counts.result _ 
 
 pub returns-in-Fault : goal.returns-in-Fault
 returns-in-Fault c = fault_number_lem _ _ _ c.wrapping_add_u64-in-Fault.result _ _ c.in-Fault.is
-    (c.wrapping_add_u64-in-Fault.ensures.value ∙ ap (λ (n : ℕ). (n + _) % 2 ^ 64) c.fault_number.ensures)
+    (c.wrapping_add_u64-in-Fault.ensures.value ∙ ap (λ (n : ℕ). (n + c.in-Fault.place) % 2 ^ 64) c.fault_number.ensures)
 
 pub returns-in-Refused : goal.returns-in-Refused
 returns-in-Refused c = refused_number _ _ _ 0 c.in-Refused.is refl

@@ -6,8 +6,8 @@ usage: python3 tools/turn_edits.py OLDER [--look]      at the top of the reposit
 An `old:` text that stands once in OLDER's file is to stand once in today's. A text that still does stays. Any other is turned as the two scripts turned the
 files: names in snake case, `x.f` written tight, `now` and `.entry` of a borrow as `.now`, `.old` and `.new`, paths and operators as today's library has them.
 The `new:` text is turned alike, a name only where today's file doesn't hold it as it was, and so is the law that a line `# breaks: FILE LAW` names: where
-that line names a function's proof, today's goal is written by hand. --look writes nothing. What no rule turns is listed: it is done by
-hand, and what is done stays as it is when this runs again.
+that line names a function's proof, today's goal is written by hand. What no rule turns is listed and left. What is turned, by this or by hand, stays as it
+is when this runs again. --look writes nothing.
 """
 
 import glob
@@ -61,14 +61,10 @@ def respelled(text, here, anywhere):
     return WORD.sub(one, re.sub(r"[«»]|⌜ | ⌝", "", text))
 
 
-def tokens(text):
-    return [t for t in TOKEN.findall(text)]
-
-
 def tight(text):
     """`f x .g` as `(f x).g`, `x .g` as `x.g`."""
     out = []
-    for token in tokens(text):
+    for token in TOKEN.findall(text):
         if not re.fullmatch(r"\.[^\s.]+", token) or not out or not out[-1].isspace():
             out.append(token)
             continue
@@ -90,7 +86,7 @@ def tight(text):
 
 def bare(text):
     """`f (x.g)` as `f x.g`: a projection needs no brackets of its own."""
-    out = tokens(text)
+    out = TOKEN.findall(text)
     for at in range(len(out)):
         if out[at] != "(" or at and not (out[at - 1].isspace() or out[at - 1] in OPENING):
             continue

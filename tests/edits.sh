@@ -25,12 +25,13 @@ fi
 # name, a limit and an edit that can't be read are told as such. rt cuts what the prover said: a last word that isn't whole ends in `…`.
 refusals() {
     awk '
-        # the function that has this line: MODULE::NAME, as rt names it
-        function function_at(crate, file, line,    path, text, at, name, module) {
+        # the function that has this line, or whose attribute it is: MODULE::NAME, as rt names it
+        function function_at(crate, file, line,    path, text, at, is_attribute, name, module) {
             path = "crates/" crate "/" file
-            while (at < line && (getline text < path) > 0) {
+            while ((at < line || is_attribute) && (getline text < path) > 0) {
                 at++
-                if (match(text, /(^|[ (])fn [A-Za-z0-9_]+/)) { name = substr(text, RSTART, RLENGTH); sub(/.*fn /, "", name) }
+                if (match(text, /(^|[ (])fn [A-Za-z0-9_]+/)) { name = substr(text, RSTART, RLENGTH); sub(/.*fn /, "", name); is_attribute = 0 }
+                if (at == line && text ~ /^ *#\[/) is_attribute = 1
             }
             close(path)
             module = file; sub(/^src\//, "", module); sub(/\.rt$/, "", module); gsub(/\//, "::", module)

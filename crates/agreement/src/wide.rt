@@ -1,40 +1,18 @@
-// Bytes at one place of two slices compared as numbers. Each width is two halves; what isn't alike is left to narrower comparisons.
-ghost use Rattle.std.specs.Prelude.{◌≡◌, true, ◌+◌, ◌≤◌, length};
+// Bytes at one place of two slices compared as numbers of eight bytes. What isn't alike is left to narrower comparisons.
+ghost use Rattle.std.specs.Prelude.{◌≡◌, true, ◌+◌, ◌*◌, ◌≤◌, length};
 ghost use Rattle.word_rules.specs.Number.{number};
 
-use word::number::get64;
+use word::number::Word;
 
-pub fn same_word(a: &[u8], b: &[u8], at: usize) -> bool
-    requires { (at + 8 ≤ length a.now) × (at + 8 ≤ length b.now) }
-    ensures { result ≡ true → number a.now at 8 ≡ number b.now at 8 }
+// So many words, one after the other: since their number is known to the compiler, it makes no loop of it.
+pub fn are_same<const WORDS: usize>(a: &[u8], b: &[u8], at: usize) -> bool
+    requires { (at + WORDS * 8 ≤ length a.now) × (at + WORDS * 8 ≤ length b.now) }
+    ensures { result ≡ true → number a.now at (WORDS * 8) ≡ number b.now at (WORDS * 8) }
 {
-    get64(a, at) == get64(b, at)
-}
-
-fn same_pair(a: &[u8], b: &[u8], at: usize) -> bool
-    requires { (at + 16 ≤ length a.now) × (at + 16 ≤ length b.now) }
-    ensures { result ≡ true → number a.now at 16 ≡ number b.now at 16 }
-{
-    same_word(a, b, at) && same_word(a, b, at + 8)
-}
-
-fn same_four(a: &[u8], b: &[u8], at: usize) -> bool
-    requires { (at + 32 ≤ length a.now) × (at + 32 ≤ length b.now) }
-    ensures { result ≡ true → number a.now at 32 ≡ number b.now at 32 }
-{
-    same_pair(a, b, at) && same_pair(a, b, at + 16)
-}
-
-fn same_eight(a: &[u8], b: &[u8], at: usize) -> bool
-    requires { (at + 64 ≤ length a.now) × (at + 64 ≤ length b.now) }
-    ensures { result ≡ true → number a.now at 64 ≡ number b.now at 64 }
-{
-    same_four(a, b, at) && same_four(a, b, at + 32)
-}
-
-pub fn same_block(a: &[u8], b: &[u8], at: usize) -> bool
-    requires { (at + 128 ≤ length a.now) × (at + 128 ≤ length b.now) }
-    ensures { result ≡ true → number a.now at 128 ≡ number b.now at 128 }
-{
-    same_eight(a, b, at) && same_eight(a, b, at + 64)
+    for word in 0..WORDS {
+        if u64::get(a, at + word * 8) != u64::get(b, at + word * 8) {
+            return false;
+        }
+    }
+    true
 }

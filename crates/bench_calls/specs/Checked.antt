@@ -1,15 +1,12 @@
 -- The check of a recording by number: a place from 2,000 on, clear of every other answer.
-use Rattle.std.specs.Prelude.{ℕ, ◌+◌}
-use Rattle.difference_rules.specs.{declared.Difference.Difference}
-use Rattle.difference_rules.specs.declared.Difference.TheVariants.{Same, At}
-use Rattle.verification_rules.specs.declared.Verified.TheVariants.{Compared, Refused}
-use Rattle.verification_rules.specs.declared.Verified as verifiedAnswer
+use Rattle.std.specs.Prelude.{ℕ, ◌+◌, Option, Some, None, Result, Ok, Err}
+use Rattle.table_rules.specs.declared.Refusal.{Refusal}
 use Rattle.console_rules.specs.{Console.call_number}
 
-abbrev pub compared_number : Difference → ℕ
-compared_number Same = 0
-compared_number (At place) = 2000 + place
+abbrev pub compared_number : Option ℕ → ℕ
+compared_number None = 0
+compared_number (Some place) = 2000 + place
 
-abbrev pub verified_number : verifiedAnswer.Verified → ℕ
-verified_number (Compared difference) = compared_number difference
-verified_number (Refused refusal) = call_number refusal
+abbrev pub verified_number : Result (Option ℕ) Refusal → ℕ
+verified_number (Ok difference) = compared_number difference
+verified_number (Err refusal) = call_number refusal

@@ -2,17 +2,16 @@
 // Records lie in bytes as the firmware's calls have them. What the firmware's calls have no number for gets one of this crate's own, 1,000 or above.
 #![tactic(auto)]
 
-ghost use Rattle.std.specs.Prelude.{◌≡◌, ℕ, ◌≤◌};
-ghost use Rattle.recording_rules.specs.declared.Recorded.TheVariants.{Placed};
+ghost use Rattle.std.specs.Prelude.{◌≡◌, ℕ, ◌≤◌, Ok};
 ghost use Rattle.bench_calls.specs.Calls.{answer_number, read_answer, same_outcome, recorded_number, read_call, swap_call, record_call};
 
 use crate::reader_bytes::{keep_reader, reader_at};
 use console::answer::{emitted_number, refusal_number};
 use console::record_bytes::{keep, read};
-use emit_rules::{Emitted, Outcome};
+use emit_rules::Outcome;
 use reader_rules::Reading;
-use recording_rules::Recorded;
 use table_rules::Refusal;
+use writer_rules::Written;
 
 pub mod checking;
 pub mod reader_bytes;
@@ -24,52 +23,51 @@ pub enum BenchAnswer {
     Moved,
     Again,
     RecordLength,
-    Refused(Refusal),
 }
 
-pub fn answer_number(answer: BenchAnswer) -> u32
+pub fn answer_number(answer: Result<BenchAnswer, Refusal>) -> u32
     ensures { result ≡ answer_number answer }
 {
     match answer {
-        BenchAnswer::Done => 0,
-        BenchAnswer::RecordLength => 1000,
-        BenchAnswer::Empty => 1001,
-        BenchAnswer::Moved => 1002,
-        BenchAnswer::Again => 1003,
-        BenchAnswer::Refused(refusal) => refusal_number(refusal),
+        Ok(BenchAnswer::Done) => 0,
+        Ok(BenchAnswer::RecordLength) => 1000,
+        Ok(BenchAnswer::Empty) => 1001,
+        Ok(BenchAnswer::Moved) => 1002,
+        Ok(BenchAnswer::Again) => 1003,
+        Err(refusal) => refusal_number(refusal),
     }
 }
 
-fn read_answer(reading: Reading) -> BenchAnswer
+fn read_answer(reading: Result<Reading, Refusal>) -> Result<BenchAnswer, Refusal>
     ensures { result ≡ read_answer reading }
 {
     match reading {
-        Reading::Event(_) => BenchAnswer::Done,
-        Reading::Empty => BenchAnswer::Empty,
-        Reading::Moved => BenchAnswer::Moved,
-        Reading::Refused(refusal) => BenchAnswer::Refused(refusal),
+        Ok(Reading::Event(_)) => Ok(BenchAnswer::Done),
+        Ok(Reading::Empty) => Ok(BenchAnswer::Empty),
+        Ok(Reading::Moved) => Ok(BenchAnswer::Moved),
+        Err(refusal) => Err(refusal),
     }
 }
 
-// A swap answers as an emission does, so that its number and its record go the same way.
-fn same_outcome(outcome: swap_rules::SwapOutcome) -> Outcome
+// A swap answers as an emission does, so that its number and its record go the same way. No `From`: it could stand in neither enum's crate.
+fn same_outcome(outcome: Result<swap_rules::SwapOutcome, Refusal>) -> Result<Outcome, Refusal>
     ensures { result ≡ same_outcome outcome }
 {
     match outcome {
-        swap_rules::SwapOutcome::Done => Outcome::Done,
-        swap_rules::SwapOutcome::Wake => Outcome::Wake,
-        swap_rules::SwapOutcome::Refused(refusal) => Outcome::Refused(refusal),
+        Ok(swap_rules::SwapOutcome::Done) => Ok(Outcome::Done),
+        Ok(swap_rules::SwapOutcome::Wake) => Ok(Outcome::Wake),
+        Err(refusal) => Err(refusal),
     }
 }
 
 // The largest ring's recording has 1,048,608 bytes, so that the number fits.
-fn recorded_number(recorded: Recorded) -> u32
-    requires { (count : ℕ) → recorded ≡ Placed count → count ≤ 1048608 }
+fn recorded_number(recorded: Result<u64, Refusal>) -> u32
+    requires { (count : ℕ) → recorded ≡ Ok count → count ≤ 1048608 }
     ensures { result ≡ recorded_number recorded }
 {
     match recorded {
-        Recorded::Placed(count) => 2000 + (count as u32),
-        Recorded::Refused(refusal) => refusal_number(refusal),
+        Ok(count) => 2000 + (count as u32),
+        Err(refusal) => refusal_number(refusal),
     }
 }
 
@@ -79,7 +77,7 @@ pub fn bench_read(ring: &[u8], record: &mut [u8], out: &mut [u8]) -> u32
     ensures bytes { out.new ≡ (read_call ring.now «record».old out.old).out }
 {
     if record.len() != 32 {
-        return answer_number(BenchAnswer::RecordLength);
+        return answer_number(Ok(BenchAnswer::RecordLength));
     }
     let reader = reader_at(record);
     let answered = reader::read::read(ring, reader, out);
@@ -95,7 +93,7 @@ pub fn bench_swap(old: &mut [u8], new: &mut [u8], record: &mut [u8]) -> u32
     ensures kept { «record».new ≡ (swap_call old.old new.old «record».old).kept }
 {
     if record.len() != 24 {
-        return answer_number(BenchAnswer::RecordLength);
+        return answer_number(Ok(BenchAnswer::RecordLength));
     }
     let writer = read(record);
     let swapped = swap::swap(old, new, writer);
@@ -104,8 +102,8 @@ pub fn bench_swap(old: &mut [u8], new: &mut [u8], record: &mut [u8]) -> u32
     let outcome = same_outcome(told);
     keep(
         record,
-        Emitted {
-            outcome: outcome,
+        Written {
+            outcome,
             writer: next,
         },
     );

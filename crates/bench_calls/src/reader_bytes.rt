@@ -5,17 +5,17 @@ ghost use Rattle.bench_calls.specs.Calls.{reader_of, reader_fields};
 
 use reader_record::reader_with;
 use reader_rules::Reader;
-use word::number::{get64, put64};
+use word::number::Word;
 
 pub fn reader_at(bytes: &[u8]) -> Reader
     requires { length bytes.now ≡ 32 }
     ensures { result ≡ reader_of bytes.now }
 {
     reader_with(
-        get64(bytes, 0),
-        get64(bytes, 8),
-        get64(bytes, 16),
-        get64(bytes, 24),
+        u64::get(bytes, 0),
+        u64::get(bytes, 8),
+        u64::get(bytes, 16),
+        u64::get(bytes, 24),
     )
 }
 
@@ -23,8 +23,8 @@ pub fn keep_reader(bytes: &mut [u8], reader: Reader)
     requires { length bytes.old ≡ 32 }
     ensures { bytes.new ≡ put_all bytes.old (reader_fields reader) }
 {
-    put64(bytes, 0, reader.read_pos);
-    put64(bytes, 8, reader.last);
-    put64(bytes, 16, reader.handed);
-    put64(bytes, 24, reader.generation);
+    u64::put(bytes, 0, reader.read_pos);
+    u64::put(bytes, 8, reader.last);
+    u64::put(bytes, 16, reader.handed);
+    u64::put(bytes, 24, reader.generation);
 }

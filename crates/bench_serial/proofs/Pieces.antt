@@ -1,10 +1,10 @@
 -- The pieces of a file one by one: what is told in all is told of the first piece and of the rest, by `feed_all`; with enough fuel the pieces are the same.
+use Rattle.std.specs.Prelude.{Option}
 use Rattle.std.proofs.Common.{◌≡◌, ℕ, zero, suc, ◌+◌, ◌-◌, ◌%◌, ◌^◌, ◌<◌, ◌≤◌, min, eqb, List, [], ◌∷◌, length, take, drop, sym, refl, ap, ◌∙◌, ⊎_elim}
 use Rattle.std.proofs.Common.{not-suc-le-zero, zero-add, arith, length-drop, take_all, drop-drop}
 use native.Mathlib.Nat.{mod-add-mod, add-mod-mod}
 use Rattle.table_rules.proofs.Tests.{le_or_lt, above_zero}
 use Rattle.reading_rules.proofs.Cases.{by_test}
-use Rattle.reading_rules.specs.declared.Ending.{Ending}
 use Rattle.serial_rules.specs.Step.{fresh_listener, ended_listener}
 use Rattle.serial_rules.specs.Feed.{Fed, feed, feed_all}
 use Rattle.serial_rules.specs.declared.Listener.{Listener}
@@ -135,9 +135,9 @@ module _ (size : ℕ) (file : List ℕ) (most : ℕ) (l : Listener) (sum at : �
             ∙ ap (λ (bs : List ℕ). whole most h.listener bs h.sum) (drop-drop n at file);
       }
 
-  pub listens_end : (e : Ending) (n r : ℕ) → length file ≤ at → e ≡ ended_listener l → n ≡ end_number e % 2 ^ 64 → r ≡ (sum + n) % 2 ^ 64 → r ≡ listened size file
+  pub listens_end : (e : Option ℕ) (n r : ℕ) → length file ≤ at → e ≡ ended_listener l → n ≡ end_number e % 2 ^ 64 → r ≡ (sum + n) % 2 ^ 64 → r ≡ listened size file
   listens_end e n r all end_is n-is is =
       is
-      ∙ ap (λ (k : ℕ). (sum + k) % 2 ^ 64) (n-is ∙ ap (λ (x : Ending). end_number x % 2 ^ 64) end_is)
+      ∙ ap (λ (k : ℕ). (sum + k) % 2 ^ 64) (n-is ∙ ap (λ (x : Option ℕ). end_number x % 2 ^ 64) end_is)
       ∙ add-mod-mod sum (end_number (ended_listener l)) (2 ^ 64)
       ∙ sym (listens.same ∙ ap (λ (bs : List ℕ). whole most l bs sum) (drop_all at file all) ∙ whole_end most l sum)

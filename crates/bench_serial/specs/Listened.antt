@@ -1,10 +1,9 @@
 -- A file listened to in pieces of one size: everything that is told of it, by the rules of the listener (RULES 11.10), as one number.
-use Rattle.std.specs.Prelude.{ℕ, zero, suc, ◌+◌, ◌%◌, ◌^◌}
+use Rattle.std.specs.Prelude.{ℕ, zero, suc, ◌+◌, ◌%◌, ◌^◌, Option, Some, None}
 use mathlib.Core.{Path.◌≡◌, Bool.cond, List.List, List.[], List.◌∷◌}
 use lib.{ListN.length, ListN.take, ListN.drop, Dec.eqb}
 use Rattle.event_rules.specs.{Event.sequence}
-use Rattle.reading_rules.specs.{Parts.fault_number, Account.Told, Account.Head, Account.Stretch, Account.Counts, Account.Faulty, declared.Ending.Ending}
-use Rattle.reading_rules.specs.declared.Ending.TheVariants as ending
+use Rattle.reading_rules.specs.{Parts.fault_number, Account.Told, Account.Head, Account.Stretch, Account.Counts, Account.Faulty}
 use Rattle.serial_rules.specs.{Step.fresh_listener, Step.ended_listener, Feed.Fed, Feed.feed, Feed.feed_all, declared.Course.Course, declared.Listener.Listener, declared.Report.Report}
 use Rattle.serial_rules.specs.declared.Report.TheVariants as report
 use Rattle.bench_serial.specs.{declared.Hearing.Hearing}
@@ -19,9 +18,9 @@ unfoldable pub sum_of : List Told → ℕ
 sum_of [] = 0
 sum_of (report ∷ reports) = number_of report + sum_of reports
 
-abbrev pub end_number : Ending → ℕ
-end_number ending.Nothing = 0
-end_number (ending.Early size) = 8 + size
+abbrev pub end_number : Option ℕ → ℕ
+end_number None = 0
+end_number (Some size) = 8 + size
 
 -- ---- a file in pieces
 

@@ -2,21 +2,12 @@
 ghost use Rattle.std.specs.Prelude.{◌≡◌, ◌+◌, ◌^◌, ◌≤◌, true, length, drop};
 ghost use Rattle.bench_serial.specs.Listened.{heard};
 
-use crate::Hearing;
 use crate::reports::report_number;
 use crate::run::run;
+use crate::{Hearing, Reached};
 use serial::listener::is_too_far;
 use serial::step;
 use serial_rules::Listener;
-use std::num::wrapping_add_u64;
-
-// How far strides have led.
-#[derive(Clone, Copy)]
-pub struct Reached {
-    pub listener: Listener,
-    pub at: usize,
-    pub sum: u64,
-}
 
 // Strides keep nothing, and don't ask whether a state is possible or too far.
 fn may_stride(l: Listener, more: usize) -> bool
@@ -32,29 +23,22 @@ fn may_stride(l: Listener, more: usize) -> bool
     !is_too_far(l, more)
 }
 
-fn stride_on(l: Listener, piece: &[u8], at: usize, sum: u64) -> Reached
+fn stride_on(l: Listener, piece: &[u8], at: usize, sum: u64) -> Reached<Listener>
     requires { at ≤ length piece.now }
     ensures within { (at ≤ result.at) × (result.at ≤ length piece.now) }
-    ensures same { heard l (drop at piece.now) sum ≡ heard result.listener (drop result.at piece.now) result.sum }
+    ensures same { heard l (drop at piece.now) sum ≡ heard result.state (drop result.at piece.now) result.sum }
 {
     if !may_stride(l, piece.len() - at) {
-        return Reached {
-            listener: l,
-            at: at,
-            sum: sum,
-        };
+        return Reached { state: l, at, sum };
     }
-    let course = l.course;
-    let ran = run(course, piece, at, sum);
-    let kept = l.kept;
-    let next = ran.course;
-    let listener = Listener {
-        course: next,
+    let ran = run(l.course, piece, at, sum);
+    let state = Listener {
+        course: ran.state,
         held: 0,
-        kept: kept,
+        ..l
     };
     Reached {
-        listener: listener,
+        state,
         at: ran.at,
         sum: ran.sum,
     }
@@ -68,7 +52,7 @@ pub fn hear(listener: Listener, piece: &[u8], sum: u64) -> Hearing
     let mut total = sum;
     while at < piece.len() {
         let reached = stride_on(state, piece, at, total);
-        state = reached.listener;
+        state = reached.state;
         at = reached.at;
         total = reached.sum;
         if at == piece.len() {
@@ -87,7 +71,7 @@ pub fn hear(listener: Listener, piece: &[u8], sum: u64) -> Hearing
         let next = s.listener;
         let kept = next.kept;
         let report = s.report;
-        total = wrapping_add_u64(total, report_number(report, &piece[at..], kept));
+        total = total.wrapping_add(report_number(report, &piece[at..], kept));
         state = next;
         at += s.used;
     }

@@ -2,19 +2,25 @@
 // goes into one sum, so that none can be left out.
 #![tactic(auto)]
 
-ghost use Rattle.std.specs.Prelude.{◌≡◌, ◌%◌, ◌^◌, min};
-ghost use Rattle.bench_serial.specs.Listened.{end_number, piece_size, heard, listened};
+ghost use Rattle.std.specs.Prelude.{◌≡◌, ◌%◌, ◌^◌};
+ghost use Rattle.bench_serial.specs.Listened.{end_number, piece_size, listened};
 
 use crate::hear::hear;
-use reading_rules::Ending;
 use serial::end;
 use serial::listener::fresh;
 use serial_rules::Listener;
-use std::num::wrapping_add_u64;
 
 pub mod hear;
 pub mod reports;
 pub mod run;
+
+// How far a piece has been listened to, and the sum so far: by strides, whose state is a course, or by a listener.
+#[derive(Clone, Copy)]
+pub struct Reached<S> {
+    pub state: S,
+    pub at: usize,
+    pub sum: u64,
+}
 
 // What a piece leaves: the listener, and the sum of all reports so far.
 #[derive(Clone, Copy)]
@@ -23,12 +29,12 @@ pub struct Hearing {
     pub sum: u64,
 }
 
-fn end_number(ending: Ending) -> u64
+fn end_number(ending: Option<u64>) -> u64
     ensures { result ≡ end_number ending % 2 ^ 64 }
 {
     match ending {
-        Ending::Nothing => 0,
-        Ending::Early(length) => wrapping_add_u64(8, length),
+        None => 0,
+        Some(length) => 8u64.wrapping_add(length),
     }
 }
 
@@ -41,15 +47,7 @@ fn piece_size(size: u64, all: usize) -> usize
     size as usize
 }
 
-fn least(a: usize, b: usize) -> usize
-    ensures { result ≡ min a b }
-{
-    if a <= b {
-        return a;
-    }
-    b
-}
-
+// No `chunks`, which would ask for a size above 0 of an empty file too.
 pub fn bench_listen(file: &[u8], size: u64) -> u64
     ensures { result ≡ listened size file.now }
 {
@@ -58,12 +56,12 @@ pub fn bench_listen(file: &[u8], size: u64) -> u64
     let mut sum = 0;
     let mut at = 0;
     while at < file.len() {
-        let stop = at + least(most, file.len() - at);
+        let stop = at + most.min(file.len() - at);
         let heard = hear(state, &file[at..stop], sum);
         state = heard.listener;
         sum = heard.sum;
         at = stop;
     }
     let ending = end(state);
-    wrapping_add_u64(sum, end_number(ending))
+    sum.wrapping_add(end_number(ending))
 }

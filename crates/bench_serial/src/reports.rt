@@ -5,8 +5,7 @@ ghost use Rattle.serial_rules.specs.declared.Report.TheVariants.{Head};
 ghost use Rattle.bench_serial.specs.Listened.{sum_of, stride_number};
 
 use serial_rules::Report;
-use std::num::wrapping_add_u64;
-use word::number::get64;
+use word::number::Word;
 
 pub fn report_number(report: Report, piece: &[u8], kept: [u8; 32]) -> u64
     requires { report ≡ Head → 32 ≤ length piece.now }
@@ -14,11 +13,11 @@ pub fn report_number(report: Report, piece: &[u8], kept: [u8; 32]) -> u64
 {
     match report {
         Report::Nothing => 0,
-        Report::Head => get64(piece, 8),
-        Report::KeptHead => get64(&kept, 8),
-        Report::Stretch(at, size) => wrapping_add_u64(at, size),
-        Report::Counts(handed, missed) => wrapping_add_u64(handed, missed),
-        Report::Fault(fault, place) => wrapping_add_u64(faults::fault_number(fault), place),
+        Report::Head => u64::get(piece, 8),
+        Report::KeptHead => u64::get(&kept, 8),
+        Report::Stretch(at, size) => at.wrapping_add(size),
+        Report::Counts(handed, missed) => handed.wrapping_add(missed),
+        Report::Fault(fault, place) => faults::fault_number(fault).wrapping_add(place),
         Report::Refused => 0,
     }
 }
@@ -29,8 +28,8 @@ pub fn stride_number(report: Report, piece: &[u8]) -> u64
     ensures { result ≡ stride_number report piece.now % 2 ^ 64 }
 {
     match report {
-        Report::Head => get64(piece, 8),
-        Report::Stretch(place, size) => wrapping_add_u64(place, size),
+        Report::Head => u64::get(piece, 8),
+        Report::Stretch(place, size) => place.wrapping_add(size),
         Report::Nothing => 0,
         Report::KeptHead => 0,
         Report::Counts(_, _) => 0,

@@ -2,23 +2,15 @@
 ghost use Rattle.std.specs.Prelude.{◌+◌, ◌-◌, ◌^◌, ◌≤◌, length, drop};
 ghost use Rattle.bench_serial.specs.Listened.{SameRest};
 
+use crate::Reached;
 use crate::reports::stride_number;
 use serial_rules::Course;
-use std::num::wrapping_add_u64;
 use strides::stride::stride;
 
-// How far strides have come in a piece.
-#[derive(Clone, Copy)]
-pub struct Ran {
-    pub course: Course,
-    pub at: usize,
-    pub sum: u64,
-}
-
-pub fn run(course: Course, piece: &[u8], from: usize, sum: u64) -> Ran
+pub fn run(course: Course, piece: &[u8], from: usize, sum: u64) -> Reached<Course>
     requires { (from ≤ length piece.now) × (course.events ≤ course.last) × (course.place + (length piece.now - from) ≤ 2 ^ 62) }
     ensures within { (from ≤ result.at) × (result.at ≤ length piece.now) }
-    ensures same { SameRest course (drop from piece.now) sum result.course (drop result.at piece.now) result.sum }
+    ensures same { SameRest course (drop from piece.now) sum result.state (drop result.at piece.now) result.sum }
 {
     let mut at = from;
     let mut c = course;
@@ -28,20 +20,19 @@ pub fn run(course: Course, piece: &[u8], from: usize, sum: u64) -> Ran
         let s = stride(c, rest);
         let used = s.used;
         if used == 0 {
-            return Ran {
-                course: c,
-                at: at,
+            return Reached {
+                state: c,
+                at,
                 sum: total,
             };
         }
-        let report = s.report;
-        total = wrapping_add_u64(total, stride_number(report, rest));
+        total = total.wrapping_add(stride_number(s.report, rest));
         c = s.course;
         at += used;
     }
-    Ran {
-        course: c,
-        at: at,
+    Reached {
+        state: c,
+        at,
         sum: total,
     }
 }

@@ -12,11 +12,12 @@ use Rattle.reader_rules.specs.declared.Reader.{Reader}
 use Rattle.slip_rules.specs.Copy.{copy_out}
 use Rattle.slip_rules.specs.Confirm.{confirmed}
 use Rattle.slip_rules.specs.declared.Slip.{Slip}
-use Rattle.slip_rules.specs.declared.Copied.{Copied}
-use Rattle.slip_rules.specs.declared.Confirmed.{Confirmed}
 use Rattle.bench_calls.specs.Calls.{answer_number, reader_of, reader_fields}
 use Rattle.bench_slips.specs.Slips.{held_slip, copy_answer, slip_after, CopyCall, uncopied, answered_copy, copy_call}
 use Rattle.bench_slips.specs.Slips.{confirm_answer, ConfirmCall, unconfirmed, answered_confirm, confirm_call}
+use Rattle.reader_rules.specs.declared.Answered.{Answered}
+use Rattle.slip_rules.specs.declared.Copying.{Copying}
+use Rattle.slip_rules.specs.declared.Confirming.{Confirming}
 
 -- two lengths asked in turn
 module _ {A : Type 0} (one other : ℕ) (done left : A) where
@@ -64,18 +65,18 @@ module _ (s bytes slip out : List ℕ) where
   unfolding copy_call
   passed h g = both_right (length bytes) (length slip) (answered_copy bytes slip (copy_out s (reader_of bytes) out)) (uncopied bytes slip out) h g
 
-  pub copy_answered : length bytes ≡ 32 → length slip ≡ 32 → (reader : Reader) (copied : Copied) (out' bytes' slip' : List ℕ) (r : ℕ)
+  pub copy_answered : length bytes ≡ 32 → length slip ≡ 32 → (reader : Reader) (copied : Answered Copying) (out' bytes' slip' : List ℕ) (r : ℕ)
       → reader ≡ reader_of bytes → copied ≡ (copy_out s reader out).copied → out' ≡ (copy_out s reader out).out
       → bytes' ≡ put_all bytes (reader_fields copied.reader) → slip' ≡ slip_after slip copied.answer → r ≡ answer_number (copy_answer copied.answer)
       → (r ≡ copies.answer) × ((bytes' ≡ copies.kept) × ((slip' ≡ copies.slip) × (out' ≡ copies.out)))
   copy_answered h g reader copied out' bytes' slip' r held made handed kept written number =
       let same : copied ≡ (copy_out s (reader_of bytes) out).copied = made ∙ ap (λ (v : Reader). (copy_out s v out).copied) held in
       let whole = copy_parts (passed h g) in (
-        number ∙ ap (λ (a : Copied). answer_number (copy_answer a.answer)) same ∙ whole.0,
+        number ∙ ap (λ (a : Answered Copying). answer_number (copy_answer a.answer)) same ∙ whole.0,
         (
-          kept ∙ ap (λ (a : Copied). put_all bytes (reader_fields a.reader)) same ∙ whole.1.0,
+          kept ∙ ap (λ (a : Answered Copying). put_all bytes (reader_fields a.reader)) same ∙ whole.1.0,
           (
-            written ∙ ap (λ (a : Copied). slip_after slip a.answer) same ∙ whole.1.1.0,
+            written ∙ ap (λ (a : Answered Copying). slip_after slip a.answer) same ∙ whole.1.1.0,
             handed ∙ ap (λ (v : Reader). (copy_out s v out).out) held ∙ whole.1.1.1,
           ),
         ),
@@ -105,13 +106,13 @@ module _ (s bytes slip : List ℕ) where
   unfolding confirm_call
   confirm_passed h g = both_right (length bytes) (length slip) answered (unconfirmed bytes) h g
 
-  pub confirm_answered : length bytes ≡ 32 → length slip ≡ 32 → (reader : Reader) (one : Slip) (done : Confirmed) (bytes' : List ℕ) (r : ℕ)
+  pub confirm_answered : length bytes ≡ 32 → length slip ≡ 32 → (reader : Reader) (one : Slip) (done : Answered Confirming) (bytes' : List ℕ) (r : ℕ)
       → reader ≡ reader_of bytes → one ≡ held_slip slip → done ≡ confirmed s reader one → bytes' ≡ put_all bytes (reader_fields done.reader)
       → r ≡ answer_number (confirm_answer done.answer) → (r ≡ confirms.answer) × (bytes' ≡ confirms.kept)
   confirm_answered h g reader one done bytes' r held slipped made kept number =
       let same : done ≡ confirmed s (reader_of bytes) (held_slip slip) =
       made ∙ ap (λ (v : Reader). confirmed s v one) held ∙ ap (confirmed s (reader_of bytes)) slipped in
       let whole = confirm_parts (confirm_passed h g) in (
-        number ∙ ap (λ (a : Confirmed). answer_number (confirm_answer a.answer)) same ∙ whole.0,
-        kept ∙ ap (λ (a : Confirmed). put_all bytes (reader_fields a.reader)) same ∙ whole.1,
+        number ∙ ap (λ (a : Answered Confirming). answer_number (confirm_answer a.answer)) same ∙ whole.0,
+        kept ∙ ap (λ (a : Answered Confirming). put_all bytes (reader_fields a.reader)) same ∙ whole.1,
       )

@@ -9,27 +9,28 @@ use crate::slip_bytes::{keep_copied, slip_at};
 use bench_calls::reader_bytes::{keep_reader, reader_at};
 use bench_calls::{BenchAnswer, answer_number};
 use slip_rules::{Confirming, Copying};
+use table_rules::Refusal;
 
 pub mod slip_bytes;
 
-fn copy_answer(copying: Copying) -> BenchAnswer
+fn copy_answer(copying: Result<Copying, Refusal>) -> Result<BenchAnswer, Refusal>
     ensures { result ≡ copy_answer copying }
 {
     match copying {
-        Copying::Event(_) => BenchAnswer::Done,
-        Copying::Empty => BenchAnswer::Empty,
-        Copying::Moved => BenchAnswer::Moved,
-        Copying::Refused(refusal) => BenchAnswer::Refused(refusal),
+        Ok(Copying::Event(_)) => Ok(BenchAnswer::Done),
+        Ok(Copying::Empty) => Ok(BenchAnswer::Empty),
+        Ok(Copying::Moved) => Ok(BenchAnswer::Moved),
+        Err(refusal) => Err(refusal),
     }
 }
 
-fn confirm_answer(confirming: Confirming) -> BenchAnswer
+fn confirm_answer(confirming: Result<Confirming, Refusal>) -> Result<BenchAnswer, Refusal>
     ensures { result ≡ confirm_answer confirming }
 {
     match confirming {
-        Confirming::Done => BenchAnswer::Done,
-        Confirming::Again => BenchAnswer::Again,
-        Confirming::Refused(refusal) => BenchAnswer::Refused(refusal),
+        Ok(Confirming::Done) => Ok(BenchAnswer::Done),
+        Ok(Confirming::Again) => Ok(BenchAnswer::Again),
+        Err(refusal) => Err(refusal),
     }
 }
 
@@ -40,10 +41,10 @@ pub fn bench_copy(ring: &[u8], record: &mut [u8], slip: &mut [u8], out: &mut [u8
     ensures bytes { out.new ≡ (copy_call ring.now «record».old slip.old out.old).out }
 {
     if record.len() != 32 {
-        return answer_number(BenchAnswer::RecordLength);
+        return answer_number(Ok(BenchAnswer::RecordLength));
     }
     if slip.len() != 32 {
-        return answer_number(BenchAnswer::RecordLength);
+        return answer_number(Ok(BenchAnswer::RecordLength));
     }
     let reader = reader_at(record);
     let copied = slip::copy::copy(ring, reader, out);
@@ -58,10 +59,10 @@ pub fn bench_confirm(ring: &[u8], record: &mut [u8], slip: &[u8]) -> u32
     ensures kept { «record».new ≡ (confirm_call ring.now «record».old slip.now).kept }
 {
     if record.len() != 32 {
-        return answer_number(BenchAnswer::RecordLength);
+        return answer_number(Ok(BenchAnswer::RecordLength));
     }
     if slip.len() != 32 {
-        return answer_number(BenchAnswer::RecordLength);
+        return answer_number(Ok(BenchAnswer::RecordLength));
     }
     let reader = reader_at(record);
     let confirmed = slip::confirm::confirm(ring, reader, slip_at(slip));

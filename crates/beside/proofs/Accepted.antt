@@ -4,6 +4,8 @@ use native.Mathlib.Omega.{arith}
 use mathlib.Core.Path.{◌≡◌, refl, ap, ◌∙◌}
 use mathlib.Core.List.{List, [], ◌∷◌, ◌++◌, map}
 use lib.ListN.{length}
+use Rattle.std.specs.Prelude.{Result, Ok, Err}
+use Rattle.table_rules.specs.declared.Refusal.{Refusal}
 use Rattle.run_rules.specs.Runs.{Rising, EndPart, total}
 use Rattle.run_rules.proofs.Rising.{rising_lower}
 use Rattle.emit_rules.specs.declared.Outcome.{Outcome}
@@ -50,12 +52,12 @@ abbrev pub Small : ℕ → List (Numbered Event) → Type 0
 Small capacity [] = Unit {0}
 Small capacity (x ∷ xs) = (size x.event ≤ capacity) × Small capacity xs
 
-small_one : (capacity last w : ℕ) (t : Turn) (o : Outcome) (n : ℕ) (more : List (Numbered Event)) → Given capacity last w (size t.event) (waiting t) o
+small_one : (capacity last w : ℕ) (t : Turn) (o : Result Outcome Refusal) (n : ℕ) (more : List (Numbered Event)) → Given capacity last w (size t.event) (waiting t) o
     → Small capacity more → Small capacity (accepts (answer_of o) (record { sequence = n; event = t.event }) ++ more)
-small_one capacity last w t outcome.Done n more g h = (omega (arith, g.1.1), h)
-small_one capacity last w t outcome.Wake n more g h = (omega (arith, g.1.1), h)
-small_one capacity last w t outcome.Dropped n more g h = h
-small_one capacity last w t (outcome.Refused r) n more g h = h
+small_one capacity last w t (Ok outcome.Done) n more g h = (omega (arith, g.1.1), h)
+small_one capacity last w t (Ok outcome.Wake) n more g h = (omega (arith, g.1.1), h)
+small_one capacity last w t (Ok outcome.Dropped) n more g h = h
+small_one capacity last w t (Err r) n more g h = h
 
 pub accepted_small : (capacity last w : ℕ) (ms : List Made) → Exact capacity last w ms → Small capacity (accepted_of ms)
 accepted_small capacity last w [] exact = tt

@@ -8,6 +8,8 @@ use mathlib.Core.Logic.{⊎_elim}
 use mathlib.Core.Bool.{true, false}
 use mathlib.Core.List.{List, [], ◌∷◌, ◌++◌}
 use lib.ListN.{length, drop, length-append}
+use Rattle.std.specs.Prelude.{Result, Ok, Err}
+use Rattle.table_rules.specs.declared.Refusal.{Refusal}
 use Rattle.table_rules.specs.declared.Refusal.TheVariants as refusal
 use Rattle.table_rules.proofs.Tests.{either, le_or_lt}
 use Rattle.run_rules.proofs.Rising.{rising_one, last_one}
@@ -17,14 +19,12 @@ use Rattle.page_rules.specs.declared.Page.{Page}
 use Rattle.reader_rules.specs.Reader.{moved_to}
 use Rattle.reader_rules.specs.Read.{reading_place}
 use Rattle.reader_rules.specs.declared.Reader.{Reader}
-use Rattle.reader_rules.specs.declared.Attached.{Attached}
 use Rattle.reader_rules.proofs.Life.{attached_says, moved_says, handed_says}
 use Rattle.reader_rules.proofs.Attaching.{attach_done}
 use Rattle.slip_rules.specs.Copy.{AfterCopy}
 use Rattle.slip_rules.specs.Confirm.{not_confirmed, wrong_slip, started_over, moved_on}
 use Rattle.slip_rules.specs.declared.Copying.{Copying}
 use Rattle.slip_rules.specs.declared.Copying.TheVariants as copying
-use Rattle.slip_rules.specs.declared.Confirmed.{Confirmed}
 use Rattle.slip_rules.proofs.Slips.{fitting}
 use Rattle.slip_rules.proofs.Cases.{copy_on_sound, confirm_on_sound, slip_refused, over_says}
 use Rattle.slip_rules.proofs.Taking.{record_after_lem}
@@ -42,6 +42,8 @@ use Rattle.beside.proofs.Ground.{Ground, ground}
 use Rattle.beside.proofs.Copies.{Behind, Stood, now_sound, right_of, copied_stood}
 use Rattle.beside.proofs.Confirms.{over, on}
 use Rattle.beside.proofs.Standing.{behind_more, AllStood, all_stood_more, all_stood_drop, behind_tail, behind_end, behind_event}
+use Rattle.reader_rules.specs.declared.Answered.{Answered}
+use Rattle.slip_rules.specs.declared.Confirming.{Confirming}
 
 module _ (cpu capacity : ℕ) (narrow : cpu < 2 ^ 16) (fit : allowed capacity ≡ true) (buffer : List ℕ) (long : length buffer ≡ 8192 + capacity) where
   abbrev created : State
@@ -114,11 +116,11 @@ module _ (cpu capacity : ℕ) (narrow : cpu < 2 ^ 16) (fit : allowed capacity �
         subst (λ (x : AfterCopy). Same x.copied.reader) (sym (copy_on_sound (consumed l.state.ring c.page) l.reader out p (now_sound g c)))
         (record_after_lem (consumed l.state.ring c.page) p l.reader out (now_sound g c).order Same (i.behind, refl, refl) at_end_lem)
 
-    held : (answer : Copying) → a.copied.answer ≡ answer → AllStood cpu (accepted_of l.calls) (held_after answer a.out l.held)
-    held (copying.Event slip) told = ((copied_stood g l.reader i.behind c out slip told).0, i.stood)
-    held copying.Empty told = i.stood
-    held copying.Moved told = i.stood
-    held (copying.Refused r) told = i.stood
+    held : (answer : Result Copying Refusal) → a.copied.answer ≡ answer → AllStood cpu (accepted_of l.calls) (held_after answer a.out l.held)
+    held (Ok (copying.Event slip)) told = ((copied_stood g l.reader i.behind c out slip told).0, i.stood)
+    held (Ok copying.Empty) told = i.stood
+    held (Ok copying.Moved) told = i.stood
+    held (Err r) told = i.stood
 
     keeps_copy : Standing (after_copying l a)
     keeps_copy = record {
@@ -140,7 +142,7 @@ module _ (cpu capacity : ℕ) (narrow : cpu < 2 ^ 16) (fit : allowed capacity �
   -- ---- a confirm
 
   module _ (l : Life) (i : Standing l) (c : Consumer) (h : Held) (t : Stood cpu (accepted_of l.calls) h) where
-    abbrev confirmed_now : Confirmed
+    abbrev confirmed_now : Answered Confirming
     confirmed_now = confirm_now l.state c l.reader h.slip
 
     abbrev page : Page
@@ -149,8 +151,8 @@ module _ (cpu capacity : ℕ) (narrow : cpu < 2 ^ 16) (fit : allowed capacity �
     k : Ground cpu capacity l.calls l.state
     k = ground_of l i
 
-    by : {x : Confirmed} → confirmed_now ≡ x → Standing (after_confirming l h.front x) → Standing (after_confirming l h.front confirmed_now)
-    by e s = subst (λ (x : Confirmed). Standing (after_confirming l h.front x)) (sym e) s
+    by : {x : Answered Confirming} → confirmed_now ≡ x → Standing (after_confirming l h.front x) → Standing (after_confirming l h.front confirmed_now)
+    by e s = subst (λ (x : Answered Confirming). Standing (after_confirming l h.front x)) (sym e) s
 
     refused : Standing (after_confirming l h.front (not_confirmed l.reader refusal.Reader))
     refused = record {
@@ -244,7 +246,7 @@ module _ (cpu capacity : ℕ) (narrow : cpu < 2 ^ 16) (fit : allowed capacity �
   begins turns c any =
       let g = ground cpu capacity narrow fit buffer long turns in
       let ring : List ℕ = (after created turns).ring in
-      let is = ap (λ (a : Attached). a.reader) (attach_done (consumed ring c.page) any (page_of ring) (now_sound g c)) in
+      let is = ap (λ (a : Answered (Unit {0})). a.reader) (attach_done (consumed ring c.page) any (page_of ring) (now_sound g c)) in
       let says = attached_says (page_of ring) in
       record {
         turns = turns;

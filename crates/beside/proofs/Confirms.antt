@@ -6,6 +6,7 @@ use mathlib.Core.Path.{◌≡◌, sym, ap, ◌∙◌, subst}
 use mathlib.Core.Logic.{◌≢◌, ⊎_elim}
 use mathlib.Core.List.{List, [], ◌∷◌, ◌++◌, append_assoc}
 use lib.ListN.{drop}
+use Rattle.std.specs.Prelude.{Result, Ok, Err}
 use Rattle.table_rules.specs.declared.Refusal.{Refusal}
 use Rattle.table_rules.proofs.Tests.{le_or_lt}
 use Rattle.run_rules.specs.Runs.{Rising, total}
@@ -20,9 +21,8 @@ use Rattle.reader_rules.proofs.Life.{moved_says}
 use Rattle.slip_rules.specs.Confirm.{started_over, moved_on, confirmed}
 use Rattle.slip_rules.specs.declared.Slip.{Slip}
 use Rattle.slip_rules.specs.declared.Copying.TheVariants.{Event as copiedEvent}
-use Rattle.slip_rules.specs.declared.Confirmed.{Confirmed}
 use Rattle.slip_rules.specs.declared.Confirming.{Confirming}
-use Rattle.slip_rules.specs.declared.Confirming.TheVariants.{Done, Again, Refused}
+use Rattle.slip_rules.specs.declared.Confirming.TheVariants.{Done, Again}
 use Rattle.slip_rules.proofs.Facts.{Fitting}
 use Rattle.slip_rules.proofs.Slips.{has_gone, still_there}
 use Rattle.slip_rules.proofs.Cases.{confirm_on_sound, starts_over, advances}
@@ -35,11 +35,12 @@ use Rattle.beside.proofs.Parts.{rises_to, same_place}
 use Rattle.beside.proofs.Accepted.{accepted_more}
 use Rattle.beside.proofs.Ground.{bytes_of, Ground, inside, outside, behind, some_kept, tail_rises}
 use Rattle.beside.proofs.Copies.{Stood, now_sound, copies_event}
+use Rattle.reader_rules.specs.declared.Answered.{Answered}
 
-abbrev kind : Confirming → ℕ
-kind Done = 0
-kind Again = 1
-kind (Refused r) = 2
+abbrev kind : Result Confirming Refusal → ℕ
+kind (Ok Done) = 0
+kind (Ok Again) = 1
+kind (Err r) = 2
 
 module _ {cpu capacity : ℕ} {calls : List Made} {s : State} (g : Ground cpu capacity calls s) (h : Held) (t : Stood cpu (accepted_of calls) h)
     (reader : Reader) (right : Right (page_of s.ring) reader) (c : Consumer) where
@@ -50,7 +51,7 @@ module _ {cpu capacity : ℕ} {calls : List Made} {s : State} (g : Ground cpu ca
   slip = h.slip
 
   -- what confirming leaves
-  abbrev a : Confirmed
+  abbrev a : Answered Confirming
   a = confirmed (consumed s.ring c.page) reader slip
 
   sizes : bytes_of (accepted_of calls) ≡ bytes_of t.older + (size t.event.event + bytes_of t.younger)
@@ -77,25 +78,25 @@ module _ {cpu capacity : ℕ} {calls : List Made} {s : State} (g : Ground cpu ca
 
     -- ---- AGAIN, or not
 
-    answers : (r : Refusal) → a.answer ≢ Refused r
+    answers : (r : Refusal) → a.answer ≢ Err r
     answers r e =
         ⊎_elim
-        (λ there. omega (arith, ap (λ (x : Confirmed). kind x.answer) (on there), ap kind e))
-        (λ below. omega (arith, ap (λ (x : Confirmed). kind x.answer) (over below), ap kind e))
+        (λ there. omega (arith, ap (λ (x : Answered Confirming). kind x.answer) (on there), ap kind e))
+        (λ below. omega (arith, ap (λ (x : Answered Confirming). kind x.answer) (over below), ap kind e))
         (le_or_lt p.tail_pos slip.position)
 
-    below_tail : a.answer ≡ Again → slip.position < p.tail_pos
+    below_tail : a.answer ≡ Ok Again → slip.position < p.tail_pos
     below_tail e =
-        ⊎_elim (λ there. absurd (omega (arith, ap (λ (x : Confirmed). kind x.answer) (on there), ap kind e))) (λ below. below)
+        ⊎_elim (λ there. absurd (omega (arith, ap (λ (x : Answered Confirming). kind x.answer) (on there), ap kind e))) (λ below. below)
         (le_or_lt p.tail_pos slip.position)
 
-    says_again : slip.position < p.tail_pos → a.answer ≡ Again
-    says_again below = ap (λ (x : Confirmed). x.answer) (over below)
+    says_again : slip.position < p.tail_pos → a.answer ≡ Ok Again
+    says_again below = ap (λ (x : Answered Confirming). x.answer) (over below)
 
-    not_kept : a.answer ≡ Again → Among t.event g.kept → ⊥
+    not_kept : a.answer ≡ Ok Again → Among t.event g.kept → ⊥
     not_kept e among = omega (arith, below_tail e, t.stands, outside g t.older t.event t.younger t.split among)
 
-    if_gone : (Among t.event g.kept → ⊥) → a.answer ≡ Again
+    if_gone : (Among t.event g.kept → ⊥) → a.answer ≡ Ok Again
     if_gone gone =
         ⊎_elim
         (λ there.
@@ -112,13 +113,13 @@ module _ {cpu capacity : ℕ} {calls : List Made} {s : State} (g : Ground cpu ca
 
     -- ---- after AGAIN
 
-    module _ (e : a.answer ≡ Again) (later : List Made) (end : State) (k : Ground cpu capacity (calls ++ later) end) where
+    module _ (e : a.answer ≡ Ok Again) (later : List Made) (end : State) (k : Ground cpu capacity (calls ++ later) end) where
       abbrev q : Page
       q = page_of end.ring
 
       -- the record starts over at the tail
       record_is : a.reader ≡ moved_to p.tail_pos reader
-      record_is = ap (λ (x : Confirmed). x.reader) (over (below_tail e))
+      record_is = ap (λ (x : Answered Confirming). x.reader) (over (below_tail e))
 
       -- the event among all that was accepted until then
       split_then : accepted_of (calls ++ later) ≡ t.older ++ (t.event ∷ (t.younger ++ accepted_of later))
@@ -157,7 +158,7 @@ module _ {cpu capacity : ℕ} {calls : List Made} {s : State} (g : Ground cpu ca
                 (omega (arith, says, above, t.numbered, rises oldest younger some.2)) room
                 ∙ ap (λ (n : ℕ). record {
                   copied = record {
-                    answer = copiedEvent (record { position = n; size = size oldest.event; sequence = oldest.sequence; tail_seen = q.tail_pos });
+                    answer = Ok (copiedEvent (record { position = n; size = size oldest.event; sequence = oldest.sequence; tail_seen = q.tail_pos }));
                     reader = moved_to p.tail_pos reader;
                   };
                   out = encode cpu oldest ++ drop (size oldest.event) out;

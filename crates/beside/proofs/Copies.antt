@@ -7,6 +7,7 @@ use mathlib.Core.Logic.{⊎_elim}
 use mathlib.Core.List.{List, [], ◌∷◌, ◌++◌, map, append_assoc}
 use lib.ListN.{length, take, drop}
 use lib.Seq.{take_at}
+use Rattle.std.specs.Prelude.{Ok}
 use Rattle.table_rules.proofs.Tests.{le_or_lt}
 use Rattle.run_rules.specs.Runs.{Rising, last_of, total}
 use Rattle.run_rules.proofs.Runs.{total_append}
@@ -122,12 +123,12 @@ module _ {cpu capacity : ℕ} {calls : List Made} {s : State} (g : Ground cpu ca
       pub copies_event : Right p reader → reader.last < x.sequence → size x.event ≤ length out
           → copy_out (now c) reader out ≡ record {
             copied = record {
-              answer = copiedEvent (record {
+              answer = Ok (copiedEvent (record {
                 position = p.tail_pos + bytes_of f;
                 size = size x.event;
                 sequence = x.sequence;
                 tail_seen = p.tail_pos;
-              });
+              }));
               reader = reader;
             };
             out = encode cpu x ++ drop (size x.event) out;
@@ -142,7 +143,7 @@ module _ {cpu capacity : ℕ} {calls : List Made} {s : State} (g : Ground cpu ca
           ∙ next_front (now c) p (now_sound c) reader right (encode cpu x) later one here over out long (copying p reader out)
           ∙ (λ i. record {
             copied = record {
-              answer = copiedEvent (record { position = stands i; size = sizes i; sequence = numbers i; tail_seen = p.tail_pos });
+              answer = Ok (copiedEvent (record { position = stands i; size = sizes i; sequence = numbers i; tail_seen = p.tail_pos }));
               reader = reader;
             };
             out = bytes i ++ drop (sizes i) out;
@@ -186,7 +187,7 @@ module _ {cpu capacity : ℕ} {calls : List Made} {s : State} (g : Ground cpu ca
     pub next_kept : (reading_place p reader ≡ p.write_pos → ⊥) → Next
     next_kept apart = ⊎_elim (λ h. abreast h apart) (λ h. lapped h apart) (le_or_lt p.tail_pos reader.read_pos)
 
-    module _ (c : Consumer) (out : List ℕ) (slip : Slip) (told : (copy_out (consumed s.ring c.page) reader out).copied.answer ≡ copiedEvent slip) where
+    module _ (c : Consumer) (out : List ℕ) (slip : Slip) (told : (copy_out (consumed s.ring c.page) reader out).copied.answer ≡ Ok (copiedEvent slip)) where
       abbrev answered : AfterCopy
       answered = copy_out (now c) reader out
 

@@ -4,10 +4,9 @@ use Prim.Native.Nat.{ℕ}
 use native.Mathlib.Omega.{arith}
 use mathlib.Core.Path.{◌≡◌, refl, sym, ap, ◌∙◌, subst}
 use mathlib.Core.List.{List}
+use Rattle.std.specs.Prelude.{Result, Ok, Err}
 use Rattle.table_rules.specs.declared.Refusal.{Refusal}
 use Rattle.page_rules.specs.Page.{opened}
-use Rattle.page_rules.specs.declared.Opened.{Opened}
-use Rattle.page_rules.specs.declared.Opened.TheVariants as opens
 use Rattle.page_rules.specs.declared.Page.{Page}
 use Rattle.page_rules.proofs.Facts.{Sound}
 use Rattle.page_rules.proofs.Rows.{ring_refused, ring_sound}
@@ -19,7 +18,6 @@ use Rattle.slip_rules.specs.Confirm.{confirm_opened, confirmed}
 use Rattle.slip_rules.specs.AtOnce.{settled_after, pair_out}
 use Rattle.slip_rules.specs.declared.Slip.{Slip}
 use Rattle.slip_rules.specs.declared.Copying.TheVariants.{Event}
-use Rattle.slip_rules.specs.declared.Confirmed.{Confirmed}
 use Rattle.slip_rules.specs.declared.Confirming.TheVariants.{Done}
 use Rattle.slip_rules.proofs.Cases.{copy_on_sound, confirm_on_sound}
 use Rattle.slip_rules.proofs.Taking.{Took, took, events}
@@ -28,11 +26,13 @@ use Rattle.comparison.specs.Emptying.{Read}
 use Rattle.comparison.specs.Comparison.{Half, Promise3, DemandBy3}
 use Rattle.comparison.proofs.Demand3.{demand3}
 use Rattle.beside.specs.AtOnce.{AtOnce, PairDemand3, TailSeen}
+use Rattle.reader_rules.specs.declared.Answered.{Answered}
+use Rattle.slip_rules.specs.declared.Confirming.{Confirming}
 
 module _ (s : List ℕ) (reader : Reader) (out : List ℕ) where
   -- ---- a ring that 1 to 6 refuse
 
-  module _ (r : Refusal) (is : opened s ≡ opens.Refused r) where
+  module _ (r : Refusal) (is : opened s ≡ Err r) where
     copy_refused : copy_out s reader out ≡ nothing_copied reader out r
     unfolding copy_out
     copy_refused = ring_refused _ _ s refl is
@@ -50,18 +50,18 @@ module _ (s : List ℕ) (reader : Reader) (out : List ℕ) where
     same_opened : pair_out s reader out ≡ read_out s reader out
     same_opened =
         ap (λ (a : AfterCopy). settled_after (confirmed s) a) (copy_on_sound s reader out p sound)
-        ∙ ap (λ (confirm : Reader → Slip → Confirmed). settled_after confirm (copy_opened s p reader out)) confirms
+        ∙ ap (λ (confirm : Reader → Slip → Answered Confirming). settled_after confirm (copy_opened s p reader out)) confirms
         ∙ pair_opened_lem s p reader out sound.order
         ∙ sym (on_sound s reader out p sound)
 
-    took_there : (slip : Slip) → (copy_out s reader out).copied.answer ≡ Event slip → Took s p reader out slip
+    took_there : (slip : Slip) → (copy_out s reader out).copied.answer ≡ Ok (Event slip) → Took s p reader out slip
     took_there slip told =
         took s p reader out sound.order slip (sym (ap (λ (a : AfterCopy). a.copied.answer) (copy_on_sound s reader out p sound)) ∙ told)
 
-    done_opened : (slip : Slip) → (copy_out s reader out).copied.answer ≡ Event slip → (confirmed s reader slip).answer ≡ Done
+    done_opened : (slip : Slip) → (copy_out s reader out).copied.answer ≡ Ok (Event slip) → (confirmed s reader slip).answer ≡ Ok Done
     done_opened slip told =
         let t = took_there slip told in
-        ap (λ (c : Confirmed). c.answer)
+        ap (λ (c : Answered Confirming). c.answer)
         (confirm_on_sound s reader slip p sound
         ∙ ap (confirm_opened p reader) t.slip_is
         ∙ moves_on s p reader out t.fits _ (omega arith) (omega arith) t.well t.above)
@@ -69,19 +69,19 @@ module _ (s : List ℕ) (reader : Reader) (out : List ℕ) where
   -- ---- both
 
   -- with the page, where copying has answered with an event
-  pub opened_for : (slip : Slip) → (copy_out s reader out).copied.answer ≡ Event slip → (p : Page) × Sound s p
+  pub opened_for : (slip : Slip) → (copy_out s reader out).copied.answer ≡ Ok (Event slip) → (p : Page) × Sound s p
   opened_for slip told = by (opened s) refl
     where
-      by : (answer : Opened) → opened s ≡ answer → (p : Page) × Sound s p
-      by (opens.Refused r) e = absurd (omega (arith, ap (λ (a : AfterCopy). events a.copied.answer) (copy_refused r e), ap events told))
-      by (opens.Page p) e = (p, ring_sound s refl e)
+      by : (answer : Result Page Refusal) → opened s ≡ answer → (p : Page) × Sound s p
+      by (Err r) e = absurd (omega (arith, ap (λ (a : AfterCopy). events a.copied.answer) (copy_refused r e), ap events told))
+      by (Ok p) e = (p, ring_sound s refl e)
 
   same : pair_out s reader out ≡ read_out s reader out
   same = by (opened s) refl
     where
-      by : (answer : Opened) → opened s ≡ answer → pair_out s reader out ≡ read_out s reader out
-      by (opens.Refused r) e = ap (λ (a : AfterCopy). settled_after (confirmed s) a) (copy_refused r e) ∙ sym (read_refused r e)
-      by (opens.Page p) e = same_opened p (ring_sound s refl e)
+      by : (answer : Result Page Refusal) → opened s ≡ answer → pair_out s reader out ≡ read_out s reader out
+      by (Err r) e = ap (λ (a : AfterCopy). settled_after (confirmed s) a) (copy_refused r e) ∙ sym (read_refused r e)
+      by (Ok p) e = same_opened p (ring_sound s refl e)
 
 pub at_once : AtOnce
 at_once s reader out = record {

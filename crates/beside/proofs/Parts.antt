@@ -1,6 +1,6 @@
 -- Lists cut in two, by what stands in front: two fronts of one list, of which one has no more bytes, are one the beginning of the other (`prefixes`); and
 -- where sequences rise, a sequence names one event and its place (`same_place`).
-use Prim.Native.Nat.{ℕ, ◌+◌, ◌≤◌, ◌<◌}
+use Prim.Native.Nat.{ℕ, ◌≤◌, ◌<◌}
 use native.Mathlib.Omega.{arith}
 use mathlib.Core.Path.{◌≡◌, refl, sym, ap, ap₂, ◌∙◌, subst}
 use mathlib.Core.List.{List, [], ◌∷◌, ◌++◌, tail, append_assoc}

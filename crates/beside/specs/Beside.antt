@@ -1,6 +1,6 @@
 -- RULES 7.17: what is promised of a reader that copies and confirms beside a live writer, on a fresh ring with one writer, attached to it at any moment.
 -- What was accepted is read off the emissions' answers, what is in the ring off its bytes, what was copied off the output buffers.
-use Rattle.std.specs.Prelude.{ℕ, ◌+◌, ◌^◌, ◌≤◌, ◌<◌}
+use Rattle.std.specs.Prelude.{ℕ, ◌+◌, ◌^◌, ◌≤◌, ◌<◌, Ok, Err}
 use mathlib.Core.{Path.◌≡◌, Logic.◌≢◌, Logic.◌↔◌, Bool.true, List.List, List.[], List.◌∷◌, List.◌++◌, List.map}
 use lib.{ListN.length, ListN.take, ListN.drop}
 use Rattle.table_rules.specs.{declared.Refusal.Refusal}
@@ -10,13 +10,15 @@ use Rattle.page_rules.specs.{Page.page_of}
 use Rattle.event_rules.specs.{Run.joined}
 use Rattle.look_rules.specs.{Live.live}
 use Rattle.reader_rules.specs.{declared.Reader.Reader}
-use Rattle.slip_rules.specs.{Copy.copy_out, declared.Slip.Slip, declared.Confirmed.Confirmed}
+use Rattle.slip_rules.specs.{Copy.copy_out, declared.Slip.Slip}
 use Rattle.slip_rules.specs.declared.Copying.TheVariants.{Event as copiedEvent}
-use Rattle.slip_rules.specs.declared.Confirming.TheVariants.{Again, Refused}
+use Rattle.slip_rules.specs.declared.Confirming.TheVariants.{Again}
 use Rattle.history.specs.{Ring.sequence_of, Ring.Numbered}
 use Rattle.promise.specs.{Bytes.Event, Bytes.size, Bytes.encode, Bytes.State, Bytes.consumed, Bytes.Turn, Bytes.Made, Bytes.made, Bytes.after, Bytes.accepted_of}
 use Rattle.comparison.specs.{Emptying.Consumer}
 use Rattle.beside.specs.Life.{Life, Act, copy_now, confirm_now, through_acts, attached_after}
+use Rattle.reader_rules.specs.declared.Answered.{Answered}
+use Rattle.slip_rules.specs.declared.Confirming.{Confirming}
 
 -- x is one of some events
 pub record Among {A : Type 0} (x : A) (all : List A) : Type 0 where
@@ -42,12 +44,12 @@ pub record AtOldest (cpu : ℕ) (s : List ℕ) (kept : List (Numbered Event)) (r
   pub copies : (c : Consumer) (out : List ℕ) → size oldest.event ≤ length out →
       copy_out (consumed s c.page) reader out ≡ record {
         copied = record {
-          answer = copiedEvent (record {
+          answer = (Ok (copiedEvent (record {
             position = (page_of s).tail_pos;
             size = size oldest.event;
             sequence = oldest.sequence;
             tail_seen = (page_of s).tail_pos;
-          });
+          })));
           reader = reader;
         };
         out = encode cpu oldest ++ drop (size oldest.event) out;
@@ -55,7 +57,7 @@ pub record AtOldest (cpu : ℕ) (s : List ℕ) (kept : List (Numbered Event)) (r
 
 -- An event was copied, with this slip and this front of the output buffer; `calls` are all emissions until its slip was confirmed, `s` is what there was
 -- then, and `a` what confirming left.
-pub record Settles (cpu capacity : ℕ) (calls : List Made) (s : State) (slip : Slip) (front : List ℕ) (a : Confirmed) : Type 0 where
+pub record Settles (cpu capacity : ℕ) (calls : List Made) (s : State) (slip : Slip) (front : List ℕ) (a : Answered Confirming) : Type 0 where
   -- 1. the bytes are those of the event that was accepted under the slip's sequence
   pub event : Numbered Event
   pub accepted : Among event (accepted_of calls)
@@ -65,11 +67,11 @@ pub record Settles (cpu capacity : ℕ) (calls : List Made) (s : State) (slip : 
   -- 2. AGAIN exactly if it has gone from the ring, that is, if its position is below the tail; and no refusal
   pub kept : List (Numbered Event)
   pub ring : InRing cpu capacity calls s.ring kept
-  pub answers : (r : Refusal) → a.answer ≢ Refused r
-  pub again : (a.answer ≡ Again) ↔ (slip.position < (page_of s.ring).tail_pos)
-  pub gone : (a.answer ≡ Again) ↔ (Among event kept → ⊥)
+  pub answers : (r : Refusal) → a.answer ≢ Err r
+  pub again : (a.answer ≡ Ok Again) ↔ (slip.position < (page_of s.ring).tail_pos)
+  pub gone : (a.answer ≡ Ok Again) ↔ (Among event kept → ⊥)
   -- 3. after AGAIN the reader starts over: whatever is emitted further
-  pub over : a.answer ≡ Again → (later : List Turn) →
+  pub over : a.answer ≡ Ok Again → (later : List Turn) →
       (still : List (Numbered Event))
       × InRing cpu capacity (calls ++ made s later) (after s later).ring still
       × AtOldest cpu (after s later).ring still a.reader
@@ -80,7 +82,7 @@ Beside =
     (cpu capacity : ℕ) → cpu < 2 ^ 16 → allowed capacity ≡ true → (buffer : List ℕ) → length buffer ≡ 8192 + capacity →
     (turns : List Turn) (first : Consumer) (any : Reader) (acts : List Act) →
     let l = through_acts (attached_after cpu buffer turns first any) acts in
-    (copier : Consumer) (out : List ℕ) (slip : Slip) → (copy_now l copier out).copied.answer ≡ copiedEvent slip →
+    (copier : Consumer) (out : List ℕ) (slip : Slip) → (copy_now l copier out).copied.answer ≡ Ok (copiedEvent slip) →
     (further : List Turn) (confirmer : Consumer) →
     let a = copy_now l copier out in
     let s = after l.state further in

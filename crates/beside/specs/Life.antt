@@ -1,16 +1,18 @@
 -- RULES 7.17, 4.4, 2.4: one ring with its one writer, and a reader that copies and confirms beside it. Emissions, copies and confirms come in any order,
 -- each the operation's own definition, applied to the bytes and to the record that the call before handed back. Before each call the consumer writes
 -- what it likes into bytes 4096 to 8191.
-use Rattle.std.specs.Prelude.{ℕ}
+use Rattle.std.specs.Prelude.{ℕ, Result, Ok, Err}
+use Rattle.table_rules.specs.declared.Refusal.{Refusal}
 use mathlib.Core.{List.List, List.[], List.◌∷◌, List.◌++◌}
 use lib.{ListN.take, ListN.drop}
 use Rattle.reader_rules.specs.{Attach.attached, declared.Reader.Reader}
 use Rattle.slip_rules.specs.{Copy.AfterCopy, Copy.copy_out, Confirm.confirmed}
-use Rattle.slip_rules.specs.{declared.Slip.Slip, declared.Copying.Copying, declared.Confirming.Confirming, declared.Confirmed.Confirmed}
+use Rattle.slip_rules.specs.{declared.Slip.Slip, declared.Copying.Copying, declared.Confirming.Confirming}
 use Rattle.slip_rules.specs.declared.Copying.TheVariants as copying
 use Rattle.slip_rules.specs.declared.Confirming.TheVariants as confirming
 use Rattle.promise.specs.{Bytes.State, Bytes.consumed, Bytes.Turn, Bytes.Made, Bytes.made, Bytes.after, Demand2.created_state}
 use Rattle.comparison.specs.{Emptying.Consumer}
+use Rattle.reader_rules.specs.declared.Answered.{Answered}
 
 -- what a copy that answered with an event has left: its slip, and the front of the output buffer
 pub record Held : Type 0 where
@@ -38,21 +40,21 @@ pub data Act : Type 0 where
 abbrev pub copy_now : Life → Consumer → List ℕ → AfterCopy
 copy_now l c out = copy_out (consumed l.state.ring c.page) l.reader out
 
-abbrev pub confirm_now : State → Consumer → Reader → Slip → Confirmed
+abbrev pub confirm_now : State → Consumer → Reader → Slip → Answered Confirming
 confirm_now s c reader slip = confirmed (consumed s.ring c.page) reader slip
 
 -- ---- what each leaves
 
-abbrev pub held_after : Copying → List ℕ → List Held → List Held
-held_after (copying.Event slip) out held = record { slip = slip; front = take slip.size out } ∷ held
-held_after copying.Empty out held = held
-held_after copying.Moved out held = held
-held_after (copying.Refused r) out held = held
+abbrev pub held_after : Result Copying Refusal → List ℕ → List Held → List Held
+held_after (Ok (copying.Event slip)) out held = record { slip = slip; front = take slip.size out } ∷ held
+held_after (Ok copying.Empty) out held = held
+held_after (Ok copying.Moved) out held = held
+held_after (Err r) out held = held
 
-abbrev pub events_after : Confirming → List ℕ → List (List ℕ) → List (List ℕ)
-events_after confirming.Done front events = events ++ (front ∷ [])
-events_after confirming.Again front events = events
-events_after (confirming.Refused r) front events = events
+abbrev pub events_after : Result Confirming Refusal → List ℕ → List (List ℕ) → List (List ℕ)
+events_after (Ok confirming.Done) front events = events ++ (front ∷ [])
+events_after (Ok confirming.Again) front events = events
+events_after (Err r) front events = events
 
 abbrev pub after_emissions : Life → List Turn → Life
 after_emissions l turns = record {
@@ -72,7 +74,7 @@ after_copying l a = record {
   events = l.events;
 }
 
-abbrev pub after_confirming : Life → List ℕ → Confirmed → Life
+abbrev pub after_confirming : Life → List ℕ → Answered Confirming → Life
 after_confirming l front a = record {
   state = l.state;
   calls = l.calls;

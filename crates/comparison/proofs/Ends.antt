@@ -5,10 +5,12 @@ use mathlib.Core.Path.{◌≡◌, refl, sym, ap, ap₂, ◌∙◌, subst}
 use mathlib.Core.List.{List, [], ◌∷◌}
 use lib.ListN.{length, take, drop, replicate, length-replicate}
 use lib.Seq.{take-append_seam}
+use Rattle.std.specs.Prelude.{Result, Ok, Err}
+use Rattle.table_rules.specs.declared.Refusal.{Refusal}
 use Rattle.reader_rules.specs.Read.{AfterRead}
 use Rattle.reader_rules.specs.declared.Reader.{Reader}
 use Rattle.reader_rules.specs.declared.Reading.{Reading}
-use Rattle.reader_rules.specs.declared.Reading.TheVariants.{Event, Empty, Moved, Refused}
+use Rattle.reader_rules.specs.declared.Reading.TheVariants.{Event, Empty, Moved}
 use Rattle.comparison.specs.Emptying.{Consumer, Empties, OneEnd}
 
 -- some consumer, and an output buffer of any length
@@ -21,17 +23,17 @@ lent n = replicate n 0
 pub enough : (m n : ℕ) → m ≤ n → m ≤ length (lent n)
 enough m n h = omega (arith, length-replicate {A = ℕ} n 0)
 
-abbrev size_in : Reading → ℕ
-size_in (Event n) = n
-size_in Empty = 0
-size_in Moved = 0
-size_in (Refused r) = 0
+abbrev size_in : Result Reading Refusal → ℕ
+size_in (Ok (Event n)) = n
+size_in (Ok Empty) = 0
+size_in (Ok Moved) = 0
+size_in (Err r) = 0
 
-abbrev pub events_in : Reading → ℕ
-events_in (Event n) = 1
-events_in Empty = 0
-events_in Moved = 0
-events_in (Refused r) = 0
+abbrev pub events_in : Result Reading Refusal → ℕ
+events_in (Ok (Event n)) = 1
+events_in (Ok Empty) = 0
+events_in (Ok Moved) = 0
+events_in (Err r) = 0
 
 abbrev pub count : AfterRead → ℕ
 count o = events_in o.answered.answer

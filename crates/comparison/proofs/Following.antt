@@ -10,7 +10,6 @@ use Rattle.page_rules.specs.Page.{page_of}
 use Rattle.create_rules.specs.Create.{after_create}
 use Rattle.reader_rules.specs.Read.{read_out}
 use Rattle.reader_rules.specs.declared.Reader.{Reader}
-use Rattle.reader_rules.specs.declared.Attached.{Attached}
 use Rattle.run_rules.specs.Runs.{last_of, LongestRun, latest}
 use Rattle.run_rules.proofs.Runs.{longest_iff, longest_latest}
 use Rattle.writer_rules.specs.Writer.{zeros}
@@ -30,6 +29,7 @@ use Rattle.promise.proofs.Generation.{generation_stays}
 use Rattle.promise.proofs.Reading.{record_of, attaches}
 use Rattle.comparison.specs.Emptying.{Watched, started, watched_emission, Read, Empties, Emptied, emptying}
 use Rattle.comparison.proofs.NewlyAttached.{positive, empties}
+use Rattle.reader_rules.specs.declared.Answered.{Answered}
 
 module _ (cpu capacity : ℕ) where
   pub record Follows (b : Watched) (w : Ideal Event) : Type 0 where
@@ -43,7 +43,7 @@ module _ (cpu capacity : ℕ) where
       let h : Holds cpu capacity (after_create cpu buffer) zeros fresh = created_holds cpu capacity narrow fit buffer long in
       record {
         holds = h;
-        reader_is = ap (λ (a : Attached). a.reader) (attaches cpu capacity (after_create cpu buffer) zeros fresh h any);
+        reader_is = ap (λ (a : Answered (Unit {0})). a.reader) (attaches cpu capacity (after_create cpu buffer) zeros fresh h any);
         since_is = refl;
       }
 

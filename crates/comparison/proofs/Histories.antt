@@ -3,9 +3,10 @@ use Prim.Native.Nat.{ℕ}
 use mathlib.Core.Path.{refl, subst}
 use mathlib.Core.Logic.{◌≢◌}
 use mathlib.Core.List.{List, [], ◌∷◌, map}
+use Rattle.std.specs.Prelude.{Result, Ok, Err}
 use Rattle.table_rules.specs.declared.Refusal.{Refusal}
 use Rattle.emit_rules.specs.declared.Outcome.{Outcome}
-use Rattle.emit_rules.specs.declared.Outcome.TheVariants.{Done, Wake, Dropped, Refused}
+use Rattle.emit_rules.specs.declared.Outcome.TheVariants.{Done, Wake, Dropped}
 use Rattle.reader_rules.specs.Read.{read_out}
 use Rattle.reader_rules.specs.declared.Reader.{Reader}
 use Rattle.history.specs.Ring.{Answer}
@@ -23,11 +24,11 @@ use Rattle.comparison.proofs.NewlyAttached.{positive}
 use Rattle.comparison.proofs.Following.{Follows, follows_emission, emptied, follows_emptying}
 
 -- an outcome that isn't a refusal
-not_refused : (o : Outcome) → ((r : Refusal) → o ≢ Refused r) → NotRefused (answer_of o)
-not_refused Done h = tt
-not_refused Wake h = tt
-not_refused Dropped h = tt
-not_refused (Refused r) h = absurd (h r refl)
+not_refused : (o : Result Outcome Refusal) → ((r : Refusal) → o ≢ Err r) → NotRefused (answer_of o)
+not_refused (Ok Done) h = tt
+not_refused (Ok Wake) h = tt
+not_refused (Ok Dropped) h = tt
+not_refused (Err r) h = absurd (h r refl)
 
 taken : (cpu capacity : ℕ) (b : Watched) (w : Ideal Event) (t : Turn) → Follows cpu capacity b w → NoneRefused (made b.state (t ∷ []))
     → NotRefused (emit size capacity w.ring t.event).answer

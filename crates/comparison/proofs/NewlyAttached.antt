@@ -13,7 +13,6 @@ use Rattle.writer_rules.specs.declared.Writer.{Writer}
 use Rattle.reader_rules.specs.Reader.{reader_with}
 use Rattle.reader_rules.specs.Read.{read_out}
 use Rattle.reader_rules.specs.declared.Reader.{Reader}
-use Rattle.reader_rules.specs.declared.Attached.{Attached}
 use Rattle.run_rules.specs.Runs.{last_of, total}
 use Rattle.run_rules.proofs.Runs.{total_append}
 use Rattle.history.specs.Ring.{sequence_of, Numbered, Ring, bytes}
@@ -28,6 +27,7 @@ use Rattle.promise.proofs.Holds.{holds_range, holds_whole}
 use Rattle.promise.proofs.Reading.{record_of, attaches}
 use Rattle.comparison.specs.Emptying.{Empties, NewlyAttached}
 use Rattle.comparison.proofs.UntilEmpty.{until_empty}
+use Rattle.reader_rules.specs.declared.Answered.{Answered}
 
 -- an event has a header
 pub positive : (e : Event) → 0 < size e
@@ -71,8 +71,8 @@ newly_attached cpu capacity s w ring h any =
     let end : record_of (page_of s).generation (finished size ring (attach_at ring) ring.kept)
     ≡ reader_with (page_of s).write_pos last (length ring.kept) (page_of s).generation =
     λ i. reader_with (sym h.write_is i) last (zero-add (length ring.kept) i) (page_of s).generation in (
-      ap (λ (a : Attached). a.answer) here,
-      subst₂ (λ (r e : Reader). Empties read_out s r (map (encode cpu) ring.kept) e) (sym (ap (λ (a : Attached). a.reader) here)) end
+      ap (λ (a : Answered (Unit {0})). a.answer) here,
+      subst₂ (λ (r e : Reader). Empties read_out s r (map (encode cpu) ring.kept) e) (sym (ap (λ (a : Answered (Unit {0})). a.reader) here)) end
           (subst (λ (u : List (Numbered Event)). Empties read_out s (record_of (page_of s).generation (attach_at ring)) (map (encode cpu) u)
           (record_of (page_of s).generation (finished size ring (attach_at ring) u)))
           all (empties cpu capacity s w ring h (attach_at ring) (attach_follows size capacity ring h.holding))),

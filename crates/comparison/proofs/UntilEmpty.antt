@@ -6,10 +6,10 @@ use mathlib.Core.Path.{◌≡◌, sym, ap, ◌∙◌, subst}
 use mathlib.Core.List.{List, [], ◌∷◌, ◌++◌, append_assoc}
 use lib.ListN.{length, drop, length-append}
 use lib.Seq.{drop-append_seam}
+use Rattle.std.specs.Prelude.{Ok}
 use Rattle.run_rules.specs.Runs.{Rising, last_of}
 use Rattle.page_rules.specs.declared.Page.{Page}
 use Rattle.page_rules.proofs.Facts.{Sound}
-use Rattle.page_rules.proofs.Sound.{sound_length}
 use Rattle.event_rules.specs.Event.{sequence}
 use Rattle.event_rules.specs.Run.{joined, One, Each}
 use Rattle.event_rules.proofs.Wholes.{each_parts}
@@ -26,7 +26,7 @@ use Rattle.reader_rules.proofs.Life.{says_with, moved_says, handed_says}
 use Rattle.promise.specs.Bytes.{consumed}
 use Rattle.promise.proofs.Consumer.{sound_elsewhere, consumed_sound}
 use Rattle.promise.proofs.Reading.{reads_front}
-use Rattle.comparison.specs.Emptying.{Consumer, Hands, Ends, Empties}
+use Rattle.comparison.specs.Emptying.{Hands, Ends, Empties}
 
 module _ (s : List ℕ) (p : Page) (sound : Sound s p) (events : List (List ℕ)) (is : live s p ≡ joined events) (each : Each p.cpu_id events) where
   abbrev place : List (List ℕ) → ℕ
@@ -70,7 +70,7 @@ module _ (s : List ℕ) (p : Page) (sound : Sound s p) (events : List (List ℕ)
       read_empty (consumed s consumer.page) reader out p (consumed_sound s p sound consumer.page consumer.whole) b.right last b.known
       ∙ (λ i. record {
         answered = record {
-          answer = reading.Empty;
+          answer = Ok reading.Empty;
           reader = (says_with (moved_says (reading_place p reader) reader) ∙ (λ j. reader_with (last j) reader.last (none j) reader.generation)) i;
         };
         out = out;
@@ -91,7 +91,7 @@ module _ (s : List ℕ) (p : Page) (sound : Sound s p) (events : List (List ℕ)
         (ap (rest now p) b.stands ∙ rest_same s now (sound_elsewhere s p sound consumer.page consumer.whole).beyond p (place front) ∙ rest_is front (event ∷ others) b.cut)
         b.rises.0 out (omega (arith, room))
         ∙ ap (λ (r : Reader). record {
-          answered = record { answer = reading.Event (length event); reader = r };
+          answered = record { answer = Ok (reading.Event (length event)); reader = r };
           out = event ++ drop (length event) out;
         })
         (says_with (handed_says (reading_place p reader + length event) (sequence event) reader))

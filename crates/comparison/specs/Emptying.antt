@@ -1,16 +1,17 @@
 -- One ring with its writer and its one reader. Emptying is reading until EMPTY, each read with the record that the read before handed back.
-use Rattle.std.specs.Prelude.{ℕ, ◌+◌, ◌≤◌}
+use Rattle.std.specs.Prelude.{ℕ, ◌+◌, ◌≤◌, Ok}
 use mathlib.Core.{Path.◌≡◌, List.List, List.[], List.◌∷◌, List.◌++◌, List.map}
 use lib.{ListN.length, ListN.drop}
 use Rattle.page_rules.specs.{Page.page_of}
 use Rattle.create_rules.specs.{Create.after_create}
 use Rattle.writer_rules.specs.{declared.Writer.Writer}
 use Rattle.reader_rules.specs.{Reader.reader_with, Attach.attached, Read.AfterRead, Read.read_out}
-use Rattle.reader_rules.specs.{declared.Reader.Reader, declared.Attached.Attached, declared.Attachment.TheVariants.Done as attachmentDone}
+use Rattle.reader_rules.specs.{declared.Reader.Reader}
 use Rattle.reader_rules.specs.declared.Reading.TheVariants.{Empty as readingEmpty, Event as readingEvent}
 use Rattle.run_rules.specs.{Runs.last_of, Runs.LongestRun}
 use Rattle.history.specs.{Ring.sequence_of, Ring.Numbered, Ring.Ring}
 use Rattle.promise.specs.{Bytes.Event, Bytes.encode, Bytes.State, Bytes.consumed, Bytes.Turn, Bytes.made, Bytes.after, Bytes.accepted_of, Holds.Holds, Demand2.created_state}
+use Rattle.reader_rules.specs.declared.Answered.{Answered}
 
 -- what a ring's consumer wrote into bytes 4096 to 8191
 pub record Consumer : Type 0 where
@@ -26,7 +27,7 @@ abbrev pub Hands : Read → List ℕ → Reader → List ℕ → Reader → Type
 Hands read s reader event next =
     (consumer : Consumer) (out : List ℕ) → length event ≤ length out →
     read (consumed s consumer.page) reader out ≡ record {
-      answered = record { answer = readingEvent (length event); reader = next };
+      answered = record { answer = Ok (readingEvent (length event)); reader = next };
       out = event ++ drop (length event) out;
     }
 
@@ -34,7 +35,7 @@ Hands read s reader event next =
 abbrev pub Ends : Read → List ℕ → Reader → Reader → Type 0
 Ends read s reader end =
     (consumer : Consumer) (out : List ℕ) →
-    read (consumed s consumer.page) reader out ≡ record { answered = record { answer = readingEmpty; reader = end }; out = out }
+    read (consumed s consumer.page) reader out ≡ record { answered = record { answer = Ok readingEmpty; reader = end }; out = out }
 
 -- reading until EMPTY hands out these events' bytes, one event at each read, and leaves the reader's record as `end`
 abbrev pub Empties : Read → List ℕ → Reader → List (List ℕ) → Reader → Type 0
@@ -49,13 +50,13 @@ OneEnd =
     (events ≡ others) × (one ≡ other)
 
 abbrev pub Attach : Type 0
-Attach = List ℕ → Reader → Attached
+Attach = List ℕ → Reader → Answered (Unit {0})
 
 -- a reader newly attached to any ring that holds together is handed exactly the events kept until EMPTY; `any` is what attaching was given
 abbrev pub NewlyAttachedBy : Attach → Type 0
 NewlyAttachedBy attach =
     (cpu capacity : ℕ) (s : List ℕ) (w : Writer) (ring : Ring Event) → Holds cpu capacity s w ring → (any : Reader) →
-    ((attach s any).answer ≡ attachmentDone)
+    ((attach s any).answer ≡ Ok tt)
     × Empties read_out s (attach s any).reader (map (encode cpu) ring.kept)
     (reader_with (page_of s).write_pos (last_of sequence_of 0 ring.kept) (length ring.kept) (page_of s).generation)
 

@@ -4,11 +4,11 @@
 ghost use Rattle.std.specs.Prelude.{◌≡◌};
 ghost use Rattle.create_rules.specs.Create.{created, after_create};
 ghost use Rattle.inspect_rules.specs.Inspect.{inspected};
-ghost use Rattle.console_rules.specs.Console.{created_number, inspected_number, emit_call};
+ghost use Rattle.console_rules.specs.Console.{answered_number, emit_call};
 
 #[unsafe(no_mangle)]
 pub extern "C" fn lamipeonga_create(ring: &mut [u8], cpu_id: u16) -> u32
-    ensures answer { result ≡ created_number (created ring.old) }
+    ensures answer { result ≡ answered_number (created ring.old) }
     ensures bytes { ring.new ≡ after_create cpu_id ring.old }
 {
     console::lamipeonga_create(ring, cpu_id)
@@ -32,7 +32,7 @@ pub extern "C" fn lamipeonga_emit(
 
 #[unsafe(no_mangle)]
 pub extern "C" fn lamipeonga_inspect(ring: &[u8]) -> u32
-    ensures { result ≡ inspected_number (inspected ring.now) }
+    ensures { result ≡ answered_number (inspected ring.now) }
 {
     console::lamipeonga_inspect(ring)
 }

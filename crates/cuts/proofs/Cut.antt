@@ -6,11 +6,11 @@ use mathlib.Core.Logic.{⊎_elim, ◌≢◌}
 use mathlib.Core.Bool.{true, false}
 use mathlib.Core.List.{List, [], ◌∷◌, ◌++◌, append-nil}
 use lib.ListN.{length, length-append}
+use Rattle.std.specs.Prelude.{None}
 use Rattle.table_rules.proofs.Tests.{le_or_lt, either}
 use Rattle.event_rules.specs.Run.{joined}
 use Rattle.reading_rules.specs.Account.{Told, Account, account_of}
 use Rattle.reading_rules.specs.Faultless.{NoFault, Faultless}
-use Rattle.reading_rules.specs.declared.Ending.TheVariants.{Nothing as saysNothing}
 use Rattle.serial_rules.specs.Step.{fresh_listener, arrived, possible, stepped, ended_at, ended_listener}
 use Rattle.serial_rules.specs.Feed.{Fed, feed_up_to, feed, feed_all}
 use Rattle.serial_rules.specs.declared.Listener.{Listener}
@@ -133,7 +133,7 @@ all_faults l (piece ∷ pieces) sound here taken =
     (all_faults now.listener pieces one.sound (omega (arith, one.counts)) taken.1)
 
 -- where the end says nothing, the closing was whole or a fault was told
-silent_at : (g : Stage) (l : Listener) → ended_at g l ≡ saysNothing → g ≢ stage.Stopped → g ≡ stage.After
+silent_at : (g : Stage) (l : Listener) → ended_at g l ≡ None → g ≢ stage.Stopped → g ≡ stage.After
 silent_at stage.Opening l e on = let z : ◌≡◌ {A = ℕ} 0 1 = cc in absurd (omega arith)
 silent_at stage.Events l e on = let z : ◌≡◌ {A = ℕ} 0 1 = cc in absurd (omega arith)
 silent_at stage.After l e on = refl
@@ -175,7 +175,7 @@ good_end pieces taken = (faultless, closed)
     closed : Faultless (joined pieces) → g ≡ stage.After
     closed ok =
         let none : NoFault fed.reports = touching_parts fed.reports (subst (λ (a : Account). NoFault a.reports) (sym whole) ok.no_fault) in
-        let silent : ended_at g fed.listener ≡ saysNothing = sym at_end_lem ∙ ap (λ (a : Account). a.end) whole ∙ ok.ends_well in
+        let silent : ended_at g fed.listener ≡ None = sym at_end_lem ∙ ap (λ (a : Account). a.end) whole ∙ ok.ends_well in
         silent_at g fed.listener silent
         (⊎_elim (λ (x : NoFault fed.reports × (g ≢ stage.Stopped)). x.1)
         (λ (x : (NoFault fed.reports → ⊥) × (g ≡ stage.Stopped)). absurd (x.0 none)) agrees)

@@ -1,8 +1,7 @@
 -- RULES 11.9, 11.11: which states come about, what the others do; and the stride, which is a step.
-use Rattle.std.specs.Prelude.{ℕ, ◌+◌, ◌^◌, ◌≤◌, ◌<◌}
+use Rattle.std.specs.Prelude.{ℕ, ◌+◌, ◌^◌, ◌≤◌, ◌<◌, None}
 use mathlib.Core.{Path.◌≡◌, Bool.true, Bool.false, List.List}
 use lib.{ListN.length}
-use Rattle.reading_rules.specs.{declared.Ending.TheVariants.Nothing as saysNothing}
 use Rattle.serial_rules.specs.{Step.fresh_listener, Step.arrived, Step.possible, Step.passing, Step.taking, Step.stepped, Step.strode, Step.ended_listener, declared.Listener.Listener}
 
 -- 32 bytes are kept, as the array's type has it
@@ -16,7 +15,7 @@ StaysPossible = (possible fresh_listener ≡ true) × Keeps fresh_listener
 
 -- an impossible one tells nothing, uses the piece up and stays; nor does its end say anything
 abbrev pub Impossible : Type 0
-Impossible = (l : Listener) → possible l ≡ false → ((piece : List ℕ) → stepped l piece ≡ passing l (length piece)) × (ended_listener l ≡ saysNothing)
+Impossible = (l : Listener) → possible l ≡ false → ((piece : List ℕ) → stepped l piece ≡ passing l (length piece)) × (ended_listener l ≡ None)
 
 -- every step over bytes that isn't refused uses one of them at least, and no more than there are: stepping ends
 abbrev pub StepsEnd : Type 0

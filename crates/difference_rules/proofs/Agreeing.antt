@@ -9,8 +9,8 @@ use mathlib.Core.List.{List, [], ◌∷◌, ◌++◌}
 use lib.ListN.{length, drop, get_or}
 use lib.Dec.{eqb}
 use borrow.Author.Tests.{eq-eqb, ne_eqb}
+use Rattle.std.specs.Prelude.{Some, None}
 use Rattle.difference_rules.specs.Difference.{one_on, first_difference, agreeing}
-use Rattle.difference_rules.specs.declared.Difference.TheVariants.{Same, At}
 use Rattle.difference_rules.proofs.Facts.{Alike}
 
 heads_alike : (x y : ℕ) (xs ys : List ℕ) → x ≡ y → agreeing (x ∷ xs) (y ∷ ys) ≡ suc (agreeing xs ys)
@@ -71,26 +71,26 @@ within_front (x ∷ xs) ys (z ∷ zs) differ = by (eqb x z) (within_front xs ys 
 
 -- ---- the first difference by it
 
-pub agrees_throughout : (xs ys : List ℕ) → agreeing xs ys ≡ length xs → length xs ≡ length ys → first_difference xs ys ≡ Same
+pub agrees_throughout : (xs ys : List ℕ) → agreeing xs ys ≡ length xs → length xs ≡ length ys → first_difference xs ys ≡ None
 unfolding agreeing first_difference
 agrees_throughout [] [] e long = refl
 agrees_throughout [] (y ∷ ys) e long = absurd (omega arith)
 agrees_throughout (x ∷ xs) [] e long = absurd (omega arith)
 agrees_throughout (x ∷ xs) (y ∷ ys) e long = by (eqb x y) (λ past. agrees_throughout xs ys past (omega arith)) e
   where
-    by : (b : Bool) → (agreeing xs ys ≡ length xs → first_difference xs ys ≡ Same) → cond b (suc (agreeing xs ys)) 0 ≡ suc (length xs) → cond b (one_on (first_difference xs ys)) (At 0) ≡ Same
+    by : (b : Bool) → (agreeing xs ys ≡ length xs → first_difference xs ys ≡ None) → cond b (suc (agreeing xs ys)) 0 ≡ suc (length xs) → cond b (one_on (first_difference xs ys)) (Some 0) ≡ None
     by true tail e = ap one_on (tail (omega arith))
     by false tail e = absurd (omega arith)
 
-pub agrees_so_far : (xs ys : List ℕ) → (agreeing xs ys ≡ length xs → length xs ≡ length ys → ⊥) → first_difference xs ys ≡ At (agreeing xs ys)
+pub agrees_so_far : (xs ys : List ℕ) → (agreeing xs ys ≡ length xs → length xs ≡ length ys → ⊥) → first_difference xs ys ≡ Some (agreeing xs ys)
 unfolding agreeing first_difference
 agrees_so_far [] [] differ = absurd (differ refl refl)
 agrees_so_far [] (y ∷ ys) differ = refl
 agrees_so_far (x ∷ xs) [] differ = refl
 agrees_so_far (x ∷ xs) (y ∷ ys) differ = by (eqb x y) (agrees_so_far xs ys) differ
   where
-    by : (b : Bool) → ((agreeing xs ys ≡ length xs → length xs ≡ length ys → ⊥) → first_difference xs ys ≡ At (agreeing xs ys))
+    by : (b : Bool) → ((agreeing xs ys ≡ length xs → length xs ≡ length ys → ⊥) → first_difference xs ys ≡ Some (agreeing xs ys))
         → (cond b (suc (agreeing xs ys)) 0 ≡ suc (length xs) → suc (length xs) ≡ suc (length ys) → ⊥)
-        → cond b (one_on (first_difference xs ys)) (At 0) ≡ At (cond b (suc (agreeing xs ys)) 0)
+        → cond b (one_on (first_difference xs ys)) (Some 0) ≡ Some (cond b (suc (agreeing xs ys)) 0)
     by true tail differ = ap one_on (tail (λ e long. differ (ap suc e) (ap suc long)))
     by false tail differ = refl

@@ -1,21 +1,19 @@
 -- RULES 10.9: the first place at which two lists differ.
-use Rattle.std.specs.Prelude.{ℕ, suc, ◌≤◌}
+use Rattle.std.specs.Prelude.{ℕ, suc, ◌≤◌, Option, Some, None}
 use mathlib.Core.{Path.◌≡◌, Logic.◌≢◌, Logic.◌↔◌, Bool.cond, List.List, List.[], List.◌∷◌}
 use lib.{ListN.length, ListN.take, ListN.drop, Dec.eqb}
-use Rattle.difference_rules.specs.{declared.Difference.Difference}
-use Rattle.difference_rules.specs.declared.Difference.TheVariants.{Same, At}
 
 -- behind one element that both have
-abbrev pub one_on : Difference → Difference
-one_on Same = Same
-one_on (At place) = At (suc place)
+abbrev pub one_on : Option ℕ → Option ℕ
+one_on None = None
+one_on (Some place) = Some (suc place)
 
 -- where one only goes on longer, it is the end of the shorter
-unfoldable pub first_difference : List ℕ → List ℕ → Difference
-first_difference [] [] = Same
-first_difference [] (y ∷ ys) = At 0
-first_difference (x ∷ xs) [] = At 0
-first_difference (x ∷ xs) (y ∷ ys) = cond (eqb x y) (one_on (first_difference xs ys)) (At 0)
+unfoldable pub first_difference : List ℕ → List ℕ → Option ℕ
+first_difference [] [] = None
+first_difference [] (y ∷ ys) = Some 0
+first_difference (x ∷ xs) [] = Some 0
+first_difference (x ∷ xs) (y ∷ ys) = cond (eqb x y) (one_on (first_difference xs ys)) (Some 0)
 
 -- how many elements the two have alike before they part, or before one ends
 unfoldable pub agreeing : List ℕ → List ℕ → ℕ
@@ -39,5 +37,5 @@ pub record PartAt (place : ℕ) (xs ys : List ℕ) : Type 0 where
 
 -- what is asked of the definition, of any two lists
 pub record FirstDifference (xs ys : List ℕ) : Type 0 where
-  pub same : (first_difference xs ys ≡ Same) ↔ (xs ≡ ys)
-  pub differs : (place : ℕ) → (first_difference xs ys ≡ At place) ↔ PartAt place xs ys
+  pub same : (first_difference xs ys ≡ None) ↔ (xs ≡ ys)
+  pub differs : (place : ℕ) → (first_difference xs ys ≡ Some place) ↔ PartAt place xs ys

@@ -5,22 +5,19 @@ use crate::calls::{end, feed};
 use replay_state::say::number;
 use serial_rules::{Course, Listener, Stage};
 
+// Of as many bytes arrived; `never` has a listener of its own, at one place and of any events.
 fn listener(stage: Stage, arrived: u64, held: usize, kept: [u8; 32], left: u64) -> Listener
     requires { held ≤ arrived }
 {
     let course = Course {
-        stage: stage,
+        stage,
         cpu_id: 3,
         place: arrived - (held as u64),
         events: 2,
         last: 7,
-        left: left,
+        left,
     };
-    Listener {
-        course: course,
-        held: held,
-        kept: kept,
-    }
+    Listener { course, held, kept }
 }
 
 // A piece is refused whole, also where its first byte would still fit.

@@ -7,18 +7,14 @@ fn listener(stage: Stage, held: usize, size: u8, events: u64, left: u64) -> List
     let mut kept = [0u8; 32];
     kept[0] = size;
     let course = Course {
-        stage: stage,
+        stage,
         cpu_id: 3,
         place: 4611686018427387905,
-        events: events,
+        events,
         last: 7,
-        left: left,
+        left,
     };
-    Listener {
-        course: course,
-        held: held,
-        kept: kept,
-    }
+    Listener { course, held, kept }
 }
 
 fn tried(name: &[u8], l: Listener) {

@@ -11,6 +11,7 @@ use lib.ListN.{length, take, drop, length-append, length-drop, take-append-drop}
 use lib.Seq.{take-append-le, drop-append-le, drop-drop, length-take-le}
 use lib.Dec.{eqb}
 use borrow.Author.Tests.{eqb-true, eqb-false, ne_eqb}
+use Rattle.std.specs.Prelude.{Option}
 use Rattle.table_rules.specs.Table.{first}
 use Rattle.table_rules.proofs.Facts.{Passes}
 use Rattle.table_rules.proofs.Laws.{passes}
@@ -22,7 +23,6 @@ use Rattle.reading_rules.specs.Parts.{opening_cpu, closing_handed, closing_misse
 use Rattle.reading_rules.specs.Account.{Told, Head, Stretch, Counts, Faulty, Account, say, fault_at, early, stretch, read_after, read_closing, read_payload, read_items, account_of}
 use Rattle.reading_rules.specs.declared.Fault.{Fault}
 use Rattle.reading_rules.specs.declared.Fault.TheVariants as fault
-use Rattle.reading_rules.specs.declared.Ending.{Ending}
 use Rattle.reading_rules.proofs.Cases.{by_test}
 use Rattle.reading_rules.proofs.Items.{items_short, items_closing, items_cut, items_header}
 use Rattle.reading_rules.proofs.Steps.{opening_short, opening_whole, payload_cut, payload_all, closing_short, closing_whole, after_none, after_some}
@@ -294,7 +294,7 @@ module _ (kind : Fault) (place : ℕ) where
       (λ few. absurd (subst Shows (opening_short 0 file few) shows))
 
   -- the fault that is among the reports is the first of them, since nothing is told behind a fault
-  first_fault : (before rest : List Told) (ending : Ending) → LastFault (before ++ (Faulty kind place ∷ rest)) ending → FaultOf (before ++ (Faulty kind place ∷ rest))
+  first_fault : (before rest : List Told) (ending : Option ℕ) → LastFault (before ++ (Faulty kind place ∷ rest)) ending → FaultOf (before ++ (Faulty kind place ∷ rest))
   first_fault [] rest ending last = (refl, refl)
   first_fault (Head h ∷ before) rest ending last = first_fault before rest ending last
   first_fault (Stretch at size ∷ before) rest ending last = first_fault before rest ending last

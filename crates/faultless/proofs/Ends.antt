@@ -8,31 +8,30 @@ use mathlib.Core.List.{List, [], ◌∷◌, ◌++◌}
 use lib.ListN.{length, drop, length-append, length-drop}
 use lib.Dec.{eqb, ltb}
 use borrow.Author.Tests.{ltb-false}
+use Rattle.std.specs.Prelude.{Option, Some, None}
 use Rattle.table_rules.proofs.Laws.{answers}
 use Rattle.event_rules.specs.Event.{event_size, sequence}
 use Rattle.reading_rules.specs.Parts.{opening_cpu, opening_rows, header_rows, closing_rows}
 use Rattle.reading_rules.specs.Account.{Told, Head, Stretch, Counts, Faulty, Account, fault_at, early, read_after, read_closing, read_payload, items_up_to, read_items, read_opening, account_of}
 use Rattle.reading_rules.specs.declared.Fault.{Fault}
 use Rattle.reading_rules.specs.declared.Fault.TheVariants as fault
-use Rattle.reading_rules.specs.declared.Ending.{Ending}
-use Rattle.reading_rules.specs.declared.Ending.TheVariants as ending
 use Rattle.reading_rules.proofs.Cases.{by_test}
 use Rattle.faultless.specs.Fault.{OneFault, EarlyEnd}
 
 -- behind the first fault nothing is told, and then the end says nothing
-abbrev pub LastFault : List Told → Ending → Type 0
+abbrev pub LastFault : List Told → Option ℕ → Type 0
 LastFault [] end = Unit {0}
 LastFault (Head h ∷ rest) end = LastFault rest end
 LastFault (Stretch at size ∷ rest) end = LastFault rest end
 LastFault (Counts handed missed ∷ rest) end = LastFault rest end
-LastFault (Faulty kind at ∷ rest) end = (rest ≡ []) × (end ≡ ending.Nothing)
+LastFault (Faulty kind at ∷ rest) end = (rest ≡ []) × (end ≡ None)
 
 -- what an account of the bytes from a place on ends in, where the file has `size` bytes
 record Ends (size : ℕ) (x : Account) : Type 0 where
   last : LastFault x.reports x.end
-  late : (place : ℕ) → x.end ≡ ending.Early place → place ≡ size
+  late : (place : ℕ) → x.end ≡ Some place → place ≡ size
 
-never : {A : Type 0} (place : ℕ) → ending.Nothing ≡ ending.Early place → A
+never : {A : Type 0} (place : ℕ) → None ≡ Some place → A
 never place e = let z : ◌≡◌ {A = ℕ} 0 1 = cc in absurd (omega arith)
 
 module _ (size : ℕ) where
@@ -100,7 +99,7 @@ pub one_fault : OneFault
 one_fault file kind place told = found told.before (subst (λ (reports : List Told). LastFault reports (account_of file).end) told.is (last_fault file))
   where
     found : (before : List Told) → LastFault (before ++ (Faulty kind place ∷ told.behind)) (account_of file).end
-        → (told.behind ≡ []) × ((account_of file).end ≡ ending.Nothing)
+        → (told.behind ≡ []) × ((account_of file).end ≡ None)
     found [] last = last
     found (Head h ∷ before) last = found before last
     found (Stretch at size ∷ before) last = found before last

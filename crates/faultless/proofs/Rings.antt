@@ -6,6 +6,7 @@ use mathlib.Core.Path.{◌≡◌, refl, sym, subst}
 use mathlib.Core.List.{List, [], ◌∷◌}
 use lib.ListN.{length}
 use lib.Dec.{eqb}
+use Rattle.std.specs.Prelude.{None}
 use Rattle.word_rules.proofs.Reading.{number_bound}
 use Rattle.page_rules.specs.Page.{page_of}
 use Rattle.page_rules.specs.declared.Page.{Page}
@@ -17,14 +18,13 @@ use Rattle.inspect_rules.proofs.Answers.{whole_inspected}
 use Rattle.recording_rules.specs.Recording.{recording_of}
 use Rattle.reading_rules.specs.Account.{Account, account_of}
 use Rattle.reading_rules.specs.Faultless.{NoFault, Faultless}
-use Rattle.reading_rules.specs.declared.Ending.TheVariants as ending
 use Rattle.reading_rules.proofs.Cases.{by_test}
 use Rattle.faultless.specs.Sound.{events_told, recording_told, Recordable, SoundRings}
 use Rattle.faultless.proofs.Fitting.{Bytes, events_fit}
 use Rattle.faultless.proofs.Recordings.{sound_recordings}
 
 abbrev pub Clean : Account → Type 0
-Clean x = NoFault x.reports × (x.end ≡ ending.Nothing)
+Clean x = NoFault x.reports × (x.end ≡ None)
 
 events_well : (at : ℕ) (events : List (List ℕ)) (next : Account) → Clean next → Clean (events_told at events next)
 unfolding events_told

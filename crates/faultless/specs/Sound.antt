@@ -1,12 +1,12 @@
 -- RULES 11.6: a recording is read without fault, and what is told of it are its events, each header and its whole payload, and the counts.
 -- Of all events that a recording can hold, and so of every ring that passes 1 to 6 and inspection.
-use Rattle.std.specs.Prelude.{ℕ, ◌+◌, ◌-◌, ◌^◌, ◌<◌}
+use Rattle.std.specs.Prelude.{ℕ, ◌+◌, ◌-◌, ◌^◌, ◌<◌, Ok}
 use mathlib.Core.{Path.◌≡◌, List.List, List.[], List.◌∷◌}
 use lib.{ListN.length, ListN.get_or, ListN.take}
 use Rattle.run_rules.specs.{Runs.Rising, Runs.last_of}
 use Rattle.page_rules.specs.{Page.page_of}
 use Rattle.event_rules.specs.{Event.sequence, Run.Each}
-use Rattle.inspect_rules.specs.{Inspect.walked, Inspect.inspected, declared.Summary.Summary, declared.Inspected.TheVariants.Whole}
+use Rattle.inspect_rules.specs.{Inspect.walked, Inspect.inspected, declared.Summary.Summary}
 use Rattle.format_rules.specs.{Format.missed_of, Format.recording}
 use Rattle.recording_rules.specs.{Recording.recording_of}
 use Rattle.reading_rules.specs.{Account.Head, Account.Counts, Account.Account, Account.say, Account.silence, Account.stretch, Account.account_of, Faultless.Faultless}
@@ -39,4 +39,4 @@ pub record RingTold (s : List ℕ) : Type 0 where
 
 -- of rings of bytes
 abbrev pub SoundRings : Type 0
-SoundRings = (s : List ℕ) (found : Summary) → ((i : ℕ) → get_or s i 0 < 256) → inspected s ≡ Whole found → RingTold s
+SoundRings = (s : List ℕ) (found : Summary) → ((i : ℕ) → get_or s i 0 < 256) → inspected s ≡ Ok found → RingTold s

@@ -10,14 +10,5 @@ use reading_rules::Fault;
 pub fn fault_number(fault: Fault) -> u64
     ensures { result ≡ fault_number fault }
 {
-    match fault {
-        Fault::Mark => 1,
-        Fault::Version => 2,
-        Fault::Spare => 3,
-        Fault::Header => 4,
-        Fault::Sequence => 5,
-        Fault::Counts => 6,
-        Fault::After => 7,
-        Fault::Early => 8,
-    }
+    fault as u64
 }

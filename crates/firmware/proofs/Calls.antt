@@ -5,12 +5,14 @@ use mathlib.Core.Path.{◌≡◌, refl, sym, ap, ◌∙◌}
 use mathlib.Core.Logic.{inl, inr}
 use mathlib.Core.Bool.{Bool}
 use mathlib.Core.List.{List}
+use Rattle.std.specs.Prelude.{Result, Ok, Err}
+use Rattle.table_rules.specs.declared.Refusal.{Refusal}
 use Rattle.table_rules.specs.declared.Refusal.TheVariants.{Spent, Far}
 use Rattle.writer_rules.specs.declared.Writer.{Writer}
 use Rattle.emit_rules.specs.Emit.{AfterEmit, emission}
 use Rattle.emit_rules.specs.declared.Label.{Label}
 use Rattle.emit_rules.specs.declared.Outcome.{Outcome}
-use Rattle.emit_rules.specs.declared.Outcome.TheVariants.{Done, Wake, Dropped, Refused}
+use Rattle.emit_rules.specs.declared.Outcome.TheVariants.{Done, Wake, Dropped}
 use Rattle.emit_rules.proofs.Kept.{emission_keeps}
 use Rattle.console_rules.specs.Console.{emitted_number, is_refused, record_of, bytes_of, record_after, Called, answered_call}
 use Rattle.console_rules.proofs.Header.{told_by_number}
@@ -25,14 +27,14 @@ use Rattle.promise.proofs.Given.{given_one}
 use Rattle.firmware.specs.Firmware.{means, as_seen, recalled}
 
 -- a number means the outcome that it is given for
-means_back : (capacity last write size : ℕ) (waits : Bool) (o : Outcome) → Given capacity last write size waits o → means (emitted_number o) ≡ o
-means_back capacity last write size waits Done g = refl
-means_back capacity last write size waits Wake g = refl
-means_back capacity last write size waits Dropped g = refl
-means_back capacity last write size waits (Refused r) (inl g) =
-    ap means (told_by_number r (λ e. omega (arith, g.0, e)) ∙ g.0) ∙ given_one capacity last write size waits (Refused Spent) (Refused r) (inl (refl, g.1)) (inl g)
-means_back capacity last write size waits (Refused r) (inr g) =
-    ap means (told_by_number r (λ e. omega (arith, g.0, e)) ∙ g.0) ∙ given_one capacity last write size waits (Refused Far) (Refused r) (inr (refl, g.1, g.2, g.3)) (inr g)
+means_back : (capacity last write size : ℕ) (waits : Bool) (o : Result Outcome Refusal) → Given capacity last write size waits o → means (emitted_number o) ≡ o
+means_back capacity last write size waits (Ok Done) g = refl
+means_back capacity last write size waits (Ok Wake) g = refl
+means_back capacity last write size waits (Ok Dropped) g = refl
+means_back capacity last write size waits (Err r) (inl g) =
+    ap means (told_by_number r (λ e. omega (arith, g.0, e)) ∙ g.0) ∙ given_one capacity last write size waits (Err Spent) (Err r) (inl (refl, g.1)) (inl g)
+means_back capacity last write size waits (Err r) (inr g) =
+    ap means (told_by_number r (λ e. omega (arith, g.0, e)) ∙ g.0) ∙ given_one capacity last write size waits (Err Far) (Err r) (inr (refl, g.1, g.2, g.3)) (inr g)
 
 -- a record that goes with a ring is read back from its bytes
 pub holds_read : (cpu capacity : ℕ) (s : List ℕ) (w : Writer) (ring : Ring Event) → Holds cpu capacity s w ring → record_of (bytes_of w) ≡ w
@@ -56,12 +58,12 @@ seen_back cpu capacity last write size waits a ring g h =
     λ i. record { answer = record { outcome = outcome i; writer = writer i }; ring = a.ring }
 
 -- a refusal leaves the record, any other outcome writes the one handed back
-kept_is : (s : List ℕ) (w : Writer) (label : Label) (payload : List ℕ) (o : Outcome) → (emission s w label payload).answer.outcome ≡ o
+kept_is : (s : List ℕ) (w : Writer) (label : Label) (payload : List ℕ) (o : Result Outcome Refusal) → (emission s w label payload).answer.outcome ≡ o
     → record_after (bytes_of w) (emission s w label payload).answer ≡ bytes_of (emission s w label payload).answer.writer
-kept_is s w label payload Done e = sym (done_writes (bytes_of w) (emission s w label payload).answer (ap is_refused e))
-kept_is s w label payload Wake e = sym (done_writes (bytes_of w) (emission s w label payload).answer (ap is_refused e))
-kept_is s w label payload Dropped e = sym (done_writes (bytes_of w) (emission s w label payload).answer (ap is_refused e))
-kept_is s w label payload (Refused r) e =
+kept_is s w label payload (Ok Done) e = sym (done_writes (bytes_of w) (emission s w label payload).answer (ap is_refused e))
+kept_is s w label payload (Ok Wake) e = sym (done_writes (bytes_of w) (emission s w label payload).answer (ap is_refused e))
+kept_is s w label payload (Ok Dropped) e = sym (done_writes (bytes_of w) (emission s w label payload).answer (ap is_refused e))
+kept_is s w label payload (Err r) e =
     sym (refused_leaves (bytes_of w) (emission s w label payload).answer (ap is_refused e))
     ∙ ap (λ (a : AfterEmit). bytes_of a.answer.writer) (sym (emission_keeps s w label payload r e))
 

@@ -7,7 +7,7 @@ use Rattle.word_rules.specs.Number.{byte_of, put}
 use Rattle.word_rules.specs.Fields.{put_all}
 use Rattle.writer_rules.specs.Writer.{zeros}
 use Rattle.create_rules.specs.Create.{created}
-use Rattle.console_rules.specs.Console.{created_number, emitted_number, record_of, bytes_of, Called}
+use Rattle.console_rules.specs.Console.{answered_number, emitted_number, record_of, bytes_of, Called}
 use Rattle.history.specs.Ring.{Ring, fresh, write}
 use Rattle.history.proofs.Ideal.{emit}
 use Rattle.promise.specs.Bytes.{Event, size, State, Turn, uncalled, left, Made, made_by, made, after_by, after}
@@ -47,7 +47,7 @@ zero_bytes = refl
 pub firmware2 : Firmware2
 firmware2 cpu capacity narrow fit buffer long turns =
     let s : State = created_state cpu buffer in
-    let number : ℕ = created_number (created buffer) in
+    let number : ℕ = answered_number (created buffer) in
     let start : set_up cpu buffer ≡ held number s = ap (λ (b : List ℕ). record { answer = number; ring = s.ring; kept = b }) zero_bytes in
     let same = same_history cpu capacity turns s fresh number (created_holds cpu capacity narrow fit buffer long) in
     let calls : seen_calls (set_up cpu buffer) turns ≡ made s turns = ap (λ (c : Called). seen_calls c turns) start ∙ same.0 in
@@ -58,7 +58,7 @@ firmware2 cpu capacity narrow fit buffer long turns =
     holds_read cpu capacity end.ring end.writer (shown promise.kept end) promise.holds in
     let state : left (as_seen (last_call (set_up cpu buffer) turns)) ≡ end =
     ap (λ (c : Called). left (as_seen c)) last ∙ (λ i. record { ring = end.ring; writer = read i }) in (
-      ap created_number (created_done cpu capacity narrow fit buffer long),
+      ap answered_number (created_done cpu capacity narrow fit buffer long),
       subst₂ (λ (ms : List Made) (e : State). Promise cpu capacity fresh (uncalled s.ring turns) ms e) (sym calls) (sym state) promise,
       ap (λ (c : Called). c.kept) last ∙ ap (λ (e : State). bytes_of e.writer) (sym state),
     )

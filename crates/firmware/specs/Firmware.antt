@@ -1,20 +1,21 @@
 -- The second demand as the firmware's programmer is promised it: of the numbers answered, and of the bytes that each call leaves to the next.
-use Rattle.std.specs.Prelude.{ℕ, ◌+◌, ◌^◌, ◌<◌}
+use Rattle.std.specs.Prelude.{ℕ, ◌+◌, ◌^◌, ◌<◌, Result, Ok, Err}
+use Rattle.table_rules.specs.declared.Refusal.{Refusal}
 use mathlib.Core.{Path.◌≡◌, Bool.true, Bool.cond, List.List, List.[], List.◌∷◌}
 use lib.{ListN.length, ListN.replicate, Dec.eqb}
 use Rattle.table_rules.specs.{declared.Refusal.TheVariants.Spent, declared.Refusal.TheVariants.Far, declared.Refusal.TheVariants.Record}
 use Rattle.capacity_rules.specs.{Capacity.allowed}
 use Rattle.create_rules.specs.{Create.created, Create.after_create}
 use Rattle.emit_rules.specs.{Emit.AfterEmit, declared.Outcome.Outcome}
-use Rattle.emit_rules.specs.declared.Outcome.TheVariants.{Done, Wake, Dropped, Refused}
-use Rattle.console_rules.specs.{Console.created_number, Console.record_of, Console.bytes_of, Console.Called, Console.emit_call}
+use Rattle.emit_rules.specs.declared.Outcome.TheVariants.{Done, Wake, Dropped}
+use Rattle.console_rules.specs.{Console.answered_number, Console.record_of, Console.bytes_of, Console.Called, Console.emit_call}
 use Rattle.history.specs.{Ring.fresh}
 use Rattle.promise.specs.{Bytes.consumed, Bytes.Turn, Bytes.uncalled, Bytes.left, Bytes.Made, Demand2.Promise}
 
 -- 8.3: what a number answered says; the promise shuts out any refusal but 8 and 9
-abbrev pub means : ℕ → Outcome
-means n = cond (eqb n 0) Done (cond (eqb n 20) Dropped (cond (eqb n 21) Wake
-    (cond (eqb n 8) (Refused Spent) (cond (eqb n 9) (Refused Far) (Refused Record)))))
+abbrev pub means : ℕ → Result Outcome Refusal
+means n = cond (eqb n 0) (Ok Done) (cond (eqb n 20) (Ok Dropped) (cond (eqb n 21) (Ok Wake)
+    (cond (eqb n 8) (Err Spent) (cond (eqb n 9) (Err Far) (Err Record)))))
 
 -- what C sees that a call left, in the words of `Promise`
 abbrev pub as_seen : Called → AfterEmit
@@ -22,7 +23,7 @@ as_seen c = record { answer = record { outcome = means c.answer; writer = record
 
 -- creation, and 24 zero bytes for the record
 abbrev pub set_up : ℕ → List ℕ → Called
-set_up cpu buffer = record { answer = created_number (created buffer); ring = after_create cpu buffer; kept = replicate 24 0 }
+set_up cpu buffer = record { answer = answered_number (created buffer); ring = after_create cpu buffer; kept = replicate 24 0 }
 
 -- the next call, on what the call before left, once the consumer has written
 abbrev pub recalled : Called → Turn → Called

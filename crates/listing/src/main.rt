@@ -10,13 +10,11 @@ fn main() {
     let n = io::read_full(STDIN_FILENO, &mut input);
     let mut out = [0u8; 131072];
     let replied = listing(&input[..n], &mut out);
-    let count = replied.count;
-    io::write_all(STDOUT_FILENO, &out[..count]);
-    let kind = replied.kind;
-    let ended = match kind {
-        Kind::Wanted => Ended::Good,
-        Kind::Other => Ended::Other,
-        Kind::Hindrance => Ended::Other,
+    io::write_all(STDOUT_FILENO, &out[..replied.count]);
+    let ended = if replied.kind == Kind::Wanted {
+        Ended::Good
+    } else {
+        Ended::Other
     };
     io::write_all(STATUS_FILENO, &digit(ended));
 }

@@ -5,15 +5,14 @@ use mathlib.Core.Logic.{inl, inr, ⊎_elim}
 use mathlib.Core.Bool.{true, false}
 use mathlib.Core.List.{List}
 use lib.ListN.{length}
+use Rattle.std.specs.Prelude.{Err}
 use Rattle.table_rules.specs.declared.Refusal.TheVariants.{Size}
 use Rattle.table_rules.proofs.Laws.{answers_both}
 use Rattle.table_rules.proofs.Tests.{either}
 use Rattle.page_rules.specs.Fresh.{blank}
 use Rattle.create_rules.specs.Create.{wrong_size, created, after_create}
-use Rattle.create_rules.specs.declared.Created.TheVariants.{Refused}
 use Rattle.create_rules.proofs.Laws.{size_refused, size_passed}
 use Rattle.emit_rules.specs.declared.Label.{Label}
-use Rattle.emit_rules.specs.declared.Emitted.{Emitted}
 use Rattle.console_rules.specs.Console.{emitted_number, record_of, record_after, Called, refused_call, record_rows, emit_call}
 use Rattle.looked_at.specs.LookedAt.{Agree, AgreeStill, MadeAlike, LookedAt}
 use Rattle.looked_at.proofs.Writes.{unwritten}
@@ -21,10 +20,12 @@ use Rattle.looked_at.proofs.Looks.{inspected_same, attached_same, read_same, cop
 use Rattle.looked_at.proofs.Confirm.{confirmed_same}
 use Rattle.looked_at.proofs.Emission.{emission_agree}
 use Rattle.looked_at.proofs.Swap.{exchange_agree}
+use Rattle.writer_rules.specs.declared.Written.{Written}
+use Rattle.emit_rules.specs.declared.Outcome.{Outcome}
 
 module _ (s t : List ℕ) where
   created_agree : length t ≡ length s → (cpu : ℕ)
-      → (created t ≡ created s) × MadeAlike (λ r. created s ≡ Refused r) s t (after_create cpu s) (after_create cpu t)
+      → (created t ≡ created s) × MadeAlike (λ r. created s ≡ Err r) s t (after_create cpu s) (after_create cpu t)
   unfolding wrong_size
   created_agree long cpu =
       let same : wrong_size t ≡ wrong_size s = rw long in
@@ -49,7 +50,7 @@ module _ (s t : List ℕ) where
       let label : Label = record { timestamp = timestamp; event_type = type; origin_class = class } in
       let e = emission_agree g (record_of bytes) label payload in
       answers_both Agreeing (refused_call s bytes) (refused_call t bytes) _ _ (λ r. (refl, refl, unwritten s t))
-      (ap (λ (x : Emitted). emitted_number x.outcome) e.0, ap (record_after bytes) e.0, e.1)
+      (ap (λ (x : Written Outcome). emitted_number x.outcome) e.0, ap (record_after bytes) e.0, e.1)
       (record_rows bytes)
 
 pub looked_at : (s t : List ℕ) → LookedAt s t

@@ -1,11 +1,11 @@
 -- RULES 2.3, 2.4: two rings that differ only in bytes that don't count get the same answers. Of any bytes s and t, a ring or not.
-use Rattle.std.specs.Prelude.{ℕ, ◌≤◌, ◌<◌}
+use Rattle.std.specs.Prelude.{ℕ, ◌≤◌, ◌<◌, Err}
 use mathlib.Core.{Path.◌≡◌, Logic.◌⊎◌, Logic.◌↔◌, List.List}
 use lib.{ListN.length, ListN.get_or}
 use Rattle.table_rules.specs.{declared.Refusal.Refusal}
 use Rattle.page_rules.specs.{Page.page_of}
 use Rattle.writer_rules.specs.{declared.Writer.Writer}
-use Rattle.create_rules.specs.{Create.created, Create.after_create, declared.Created.TheVariants.Refused}
+use Rattle.create_rules.specs.{Create.created, Create.after_create}
 use Rattle.emit_rules.specs.{Emit.emission, declared.Label.Label}
 use Rattle.inspect_rules.specs.{Inspect.inspected}
 use Rattle.reader_rules.specs.{Attach.attached, Read.read_out, declared.Reader.Reader}
@@ -43,7 +43,7 @@ MadeAlike refused s t s' t' = (t' ≡ s') ⊎ ((r : Refusal) × refused r × (s'
 pub record LookedAt (s t : List ℕ) : Type 0 where
   -- of a buffer to be made a ring the length alone
   pub create : length t ≡ length s → (cpu : ℕ)
-      → (created t ≡ created s) × MadeAlike (λ r. created s ≡ Refused r) s t (after_create cpu s) (after_create cpu t)
+      → (created t ≡ created s) × MadeAlike (λ r. created s ≡ Err r) s t (after_create cpu s) (after_create cpu t)
   pub emit : Agree s t → (w : Writer) (label : Label) (payload : List ℕ)
       → ((emission t w label payload).answer ≡ (emission s w label payload).answer)
       × AgreeStill s t (emission s w label payload).ring (emission t w label payload).ring

@@ -6,15 +6,13 @@ use mathlib.Core.Path.{◌≡◌, sym, ap, ◌∙◌}
 use mathlib.Core.List.{List, [], ◌∷◌}
 use lib.ListN.{length, take, replicate, length-replicate}
 use lib.Seq.{take-length}
+use Rattle.std.specs.Prelude.{Option, Ok}
 use Rattle.inspect_rules.specs.Inspect.{inspected}
 use Rattle.inspect_rules.specs.declared.Summary.{Summary}
-use Rattle.inspect_rules.specs.declared.Inspected.TheVariants as inspects
 use Rattle.recording_rules.specs.Recording.{recording_of}
 use Rattle.difference_rules.specs.Difference.{first_difference}
-use Rattle.difference_rules.specs.declared.Difference.{Difference}
 use Rattle.difference_rules.proofs.First.{first_difference_lem}
 use Rattle.verification_rules.specs.Verify.{verified}
-use Rattle.verification_rules.specs.declared.Verified.TheVariants as verifies
 use Rattle.verification_rules.proofs.Cases.{refuses_too, refused_there, compares_whole}
 use Rattle.comparison.specs.Emptying.{Consumer}
 use Rattle.recordings.specs.Pieces.{Lending, pieces}
@@ -26,15 +24,15 @@ use Rattle.passing.specs.Passing.{Passes, Passing, WhatPasses}
 idle : Consumer
 idle = record { page = replicate 4096 0; whole = length-replicate {A = ℕ} 4096 0 }
 
-module _ (s : List ℕ) (found : Summary) (whole : inspected s ≡ inspects.Whole found) where
-  compared : (file : List ℕ) → verified s file ≡ verifies.Compared (first_difference (recording_of s) file)
+module _ (s : List ℕ) (found : Summary) (whole : inspected s ≡ Ok found) where
+  compared : (file : List ℕ) → verified s file ≡ Ok (first_difference (recording_of s) file)
   compared file = compares_whole s file whole
 
-  told : (file : List ℕ) {d : Difference} → verified s file ≡ verifies.Compared d → first_difference (recording_of s) file ≡ d
+  told : (file : List ℕ) {d : (Option ℕ)} → verified s file ≡ Ok d → first_difference (recording_of s) file ≡ d
   told file e = let both = sym (compared file) ∙ e in cc both
 
-  tells : (file : List ℕ) {d : Difference} → first_difference (recording_of s) file ≡ d → verified s file ≡ verifies.Compared d
-  tells file e = compared file ∙ ap verifies.Compared e
+  tells : (file : List ℕ) {d : (Option ℕ)} → first_difference (recording_of s) file ≡ d → verified s file ≡ Ok d
+  tells file e = compared file ∙ ap Ok e
 
   equal_passes : (file : List ℕ) → recording_of s ≡ file → Passes s file
   equal_passes file e = tells file ((first_difference_lem (recording_of s) file).same.1 e)

@@ -8,20 +8,16 @@ use status::{Ended, STATUS_FILENO, STDERR_FILENO, STDOUT_FILENO, digit};
 fn is_answer(kind: Kind) -> bool
     ensures { result ≡ is_answer kind }
 {
-    match kind {
-        Kind::Wanted => true,
-        Kind::Other => true,
-        Kind::Hindrance => false,
-    }
+    kind != Kind::Hindrance
 }
 
 fn ended_with(kind: Kind) -> Ended
     ensures { result ≡ ended_with kind }
 {
-    match kind {
-        Kind::Wanted => Ended::Good,
-        Kind::Other => Ended::Other,
-        Kind::Hindrance => Ended::Other,
+    if kind == Kind::Wanted {
+        Ended::Good
+    } else {
+        Ended::Other
     }
 }
 

@@ -5,6 +5,7 @@ use mathlib.Core.Path.{◌≡◌, refl, sym, ap, ◌∙◌, subst}
 use mathlib.Core.Bool.{true, not}
 use mathlib.Core.List.{List, [], map}
 use lib.ListN.{length}
+use Rattle.std.specs.Prelude.{Ok}
 use Rattle.capacity_rules.specs.Capacity.{allowed}
 use Rattle.page_rules.specs.Page.{page_of}
 use Rattle.page_rules.proofs.Facts.{Sound}
@@ -18,7 +19,6 @@ use Rattle.look_rules.specs.Live.{rest, live}
 use Rattle.writer_rules.specs.Writer.{zeros}
 use Rattle.writer_rules.proofs.Laws.{zeros_numbers, zeros_right}
 use Rattle.create_rules.specs.Create.{wrong_size, created, after_create}
-use Rattle.create_rules.specs.declared.Created.TheVariants as creates
 use Rattle.create_rules.proofs.Laws.{size_passed}
 use Rattle.history.specs.Ring.{fresh}
 use Rattle.history.proofs.Emission.{fresh_holds}
@@ -63,14 +63,14 @@ module _ (cpu capacity : ℕ) (narrow : cpu < 2 ^ 16) (fit : allowed capacity �
   }
 
   module _ (buffer : List ℕ) (long : length buffer ≡ 8192 + capacity) where
-    made_new : (created buffer ≡ creates.Done) × (after_create cpu buffer ≡ blank cpu capacity 1)
+    made_new : (created buffer ≡ Ok tt) × (after_create cpu buffer ≡ blank cpu capacity 1)
     unfolding wrong_size
     made_new =
         let rest : length buffer - 8192 ≡ capacity = omega arith in
         let passed = size_passed cpu buffer (ap not (ap allowed rest ∙ fit)) in
         (passed.0, passed.1 ∙ ap (λ (n : ℕ). blank cpu n 1) rest)
 
-    pub created_done : created buffer ≡ creates.Done
+    pub created_done : created buffer ≡ Ok tt
     created_done = made_new.0
 
     pub created_blank : after_create cpu buffer ≡ blank cpu capacity 1

@@ -4,6 +4,8 @@ use native.Mathlib.Omega.{arith}
 use mathlib.Core.Path.{◌≡◌, refl, sym, ap, ap₂, ◌∙◌, subst, subst₂}
 use mathlib.Core.List.{List, [], ◌∷◌, ◌++◌, map, tail}
 use lib.ListN.{length, get_or}
+use Rattle.std.specs.Prelude.{Result}
+use Rattle.table_rules.specs.declared.Refusal.{Refusal}
 use Rattle.page_rules.specs.Page.{page_of}
 use Rattle.page_rules.specs.Wake.{futex_counter}
 use Rattle.event_rules.specs.Run.{joined}
@@ -32,12 +34,12 @@ exact_one capacity last w (m ∷ ms) (j ∷ js) e a b =
     sym
     ((b.0 m.answer.outcome).1
     (subst (λ (t : Turn). Given capacity last w (size t.event) (waiting t) m.answer.outcome) turn ((a.0 m.answer.outcome).0 refl))) in
-    let number : m.answer.writer.last ≡ j.answer.writer.last = a.1 ∙ ap (λ (o : Outcome). last + uses (answer_of o)) outcome ∙ sym b.1 in
+    let number : m.answer.writer.last ≡ j.answer.writer.last = a.1 ∙ ap (λ (o : Result Outcome Refusal). last + uses (answer_of o)) outcome ∙ sym b.1 in
     let call : call_of m ≡ call_of j = λ i. record { event = (turn i).event; answer = answer_of (outcome i); sequence = number i } in
     let on : w + taken (accepted_of (j ∷ [])) ≡ w + taken (accepted_of (m ∷ [])) = ap (λ (k : Call Event). w + taken (accepted (k ∷ []))) (sym call) in
     let rest = exact_one capacity m.answer.writer.last (w + taken (accepted_of (m ∷ []))) ms js (ap tail e) a.2
     (subst₂ (λ (n v : ℕ). Exact capacity n v js) (sym number) on b.2) in (
-      ap₂ (λ (x : Outcome) (l : List Outcome). x ∷ l) outcome rest.0,
+      ap₂ (λ (x : Result Outcome Refusal) (l : List (Result Outcome Refusal)). x ∷ l) outcome rest.0,
       ap₂ (λ (x : Call Event) (l : List (Call Event)). x ∷ l) call rest.1,
     )
 

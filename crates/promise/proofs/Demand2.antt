@@ -10,7 +10,7 @@ use Rattle.page_rules.specs.Wake.{futex_counter, wakes}
 use Rattle.page_rules.proofs.Sound.{sound_length}
 use Rattle.event_rules.specs.Run.{joined}
 use Rattle.run_rules.specs.Runs.{total, LongestRun}
-use Rattle.history.specs.Ring.{Numbered, Ring, bytes, write}
+use Rattle.history.specs.Ring.{Numbered, Ring, write}
 use Rattle.history.proofs.Ideal.{given, emit}
 use Rattle.history.specs.Calls.{Call, uses, accepts, used, dropped_of, accepted}
 use Rattle.history.proofs.Ideal.{call, calls}

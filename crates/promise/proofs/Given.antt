@@ -5,11 +5,12 @@ use mathlib.Core.Path.{◌≡◌, refl, sym, ap, ◌∙◌, subst}
 use mathlib.Core.Logic.{inl, inr, ◌↔◌}
 use mathlib.Core.Bool.{Bool, true, false, cond}
 use lib.Dec.{eqb}
+use Rattle.std.specs.Prelude.{Result, Ok, Err}
 use Rattle.table_rules.specs.Refusals.{paper_number}
 use Rattle.table_rules.specs.declared.Refusal.{Refusal}
 use Rattle.table_rules.specs.declared.Refusal.TheVariants as refusal
 use Rattle.emit_rules.specs.declared.Outcome.{Outcome}
-use Rattle.emit_rules.specs.declared.Outcome.TheVariants.{Done, Wake, Dropped, Refused}
+use Rattle.emit_rules.specs.declared.Outcome.TheVariants.{Done, Wake, Dropped}
 use Rattle.promise.specs.Demand2.{Acceptable, Given}
 
 -- of the refusals, the numbers 8 and 9 each mean one
@@ -42,40 +43,40 @@ module _ (capacity last write size : ℕ) (waits : Bool) where
   differ : waits ≡ true → waits ≡ false → ⊥
   differ so not_so = let z : ◌≡◌ {A = ℕ} 0 1 = cc in omega arith
 
-  not_refused : (r : Refusal) → Acceptable capacity last write size → Given capacity last write size waits (Refused r) → ⊥
+  not_refused : (r : Refusal) → Acceptable capacity last write size → Given capacity last write size waits (Err r) → ⊥
   not_refused r a (inl q) = a.0 q.1
   not_refused r a (inr q) = omega (arith, a.2, q.3)
 
-  not_dropped_refused : (r : Refusal) → Given capacity last write size waits Dropped → Given capacity last write size waits (Refused r) → ⊥
+  not_dropped_refused : (r : Refusal) → Given capacity last write size waits (Ok Dropped) → Given capacity last write size waits (Err r) → ⊥
   not_dropped_refused r d (inl q) = d.0 q.1
   not_dropped_refused r d (inr q) = omega (arith, d.1, q.2)
 
-  one_refusal : (r q : Refusal) → Given capacity last write size waits (Refused r) → Given capacity last write size waits (Refused q) → r ≡ q
+  one_refusal : (r q : Refusal) → Given capacity last write size waits (Err r) → Given capacity last write size waits (Err q) → r ≡ q
   one_refusal r q (inl a) (inl b) = same_number r q 8 (omega arith) (omega arith) a.0 b.0
   one_refusal r q (inl a) (inr b) = absurd (b.1 a.1)
   one_refusal r q (inr a) (inl b) = absurd (a.1 b.1)
   one_refusal r q (inr a) (inr b) = same_number r q 9 (omega arith) (omega arith) a.0 b.0
 
-  pub given_one : (a b : Outcome) → Given capacity last write size waits a → Given capacity last write size waits b → a ≡ b
-  given_one Done Done f g = refl
-  given_one Done Wake f g = absurd (differ g.0 f.0)
-  given_one Done Dropped f g = absurd (omega (arith, f.1.1, g.1))
-  given_one Done (Refused r) f g = absurd (not_refused r f.1 g)
-  given_one Wake Done f g = absurd (differ f.0 g.0)
-  given_one Wake Wake f g = refl
-  given_one Wake Dropped f g = absurd (omega (arith, f.1.1, g.1))
-  given_one Wake (Refused r) f g = absurd (not_refused r f.1 g)
-  given_one Dropped Done f g = absurd (omega (arith, f.1, g.1.1))
-  given_one Dropped Wake f g = absurd (omega (arith, f.1, g.1.1))
-  given_one Dropped Dropped f g = refl
-  given_one Dropped (Refused r) f g = absurd (not_dropped_refused r f g)
-  given_one (Refused r) Done f g = absurd (not_refused r g.1 f)
-  given_one (Refused r) Wake f g = absurd (not_refused r g.1 f)
-  given_one (Refused r) Dropped f g = absurd (not_dropped_refused r g f)
-  given_one (Refused r) (Refused q) f g = ap Refused (one_refusal r q f g)
+  pub given_one : (a b : Result Outcome Refusal) → Given capacity last write size waits a → Given capacity last write size waits b → a ≡ b
+  given_one (Ok Done) (Ok Done) f g = refl
+  given_one (Ok Done) (Ok Wake) f g = absurd (differ g.0 f.0)
+  given_one (Ok Done) (Ok Dropped) f g = absurd (omega (arith, f.1.1, g.1))
+  given_one (Ok Done) (Err r) f g = absurd (not_refused r f.1 g)
+  given_one (Ok Wake) (Ok Done) f g = absurd (differ f.0 g.0)
+  given_one (Ok Wake) (Ok Wake) f g = refl
+  given_one (Ok Wake) (Ok Dropped) f g = absurd (omega (arith, f.1.1, g.1))
+  given_one (Ok Wake) (Err r) f g = absurd (not_refused r f.1 g)
+  given_one (Ok Dropped) (Ok Done) f g = absurd (omega (arith, f.1, g.1.1))
+  given_one (Ok Dropped) (Ok Wake) f g = absurd (omega (arith, f.1, g.1.1))
+  given_one (Ok Dropped) (Ok Dropped) f g = refl
+  given_one (Ok Dropped) (Err r) f g = absurd (not_dropped_refused r f g)
+  given_one (Err r) (Ok Done) f g = absurd (not_refused r g.1 f)
+  given_one (Err r) (Ok Wake) f g = absurd (not_refused r g.1 f)
+  given_one (Err r) (Ok Dropped) f g = absurd (not_dropped_refused r g f)
+  given_one (Err r) (Err q) f g = ap Err (one_refusal r q f g)
 
   -- so an outcome is given exactly if it is to be
-  pub given_exactly : (answer : Outcome) → Given capacity last write size waits answer → (o : Outcome) → (answer ≡ o) ↔ Given capacity last write size waits o
+  pub given_exactly : (answer : Result Outcome Refusal) → Given capacity last write size waits answer → (o : Result Outcome Refusal) → (answer ≡ o) ↔ Given capacity last write size waits o
   given_exactly answer g o = (
     λ e. subst (Given capacity last write size waits) e g,
     given_one answer o g,

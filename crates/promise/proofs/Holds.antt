@@ -4,6 +4,7 @@ use native.Mathlib.Omega.{arith}
 use mathlib.Core.Path.{◌≡◌, sym, ap, ◌∙◌, subst}
 use mathlib.Core.List.{List, map}
 use lib.ListN.{length, length-map}
+use Rattle.std.specs.Prelude.{Ok}
 use Rattle.run_rules.specs.Runs.{last_of, first_of}
 use Rattle.capacity_rules.proofs.Laws.{allowed_range}
 use Rattle.page_rules.specs.Page.{page_of}
@@ -12,7 +13,6 @@ use Rattle.event_rules.proofs.Facts.{Whole}
 use Rattle.writer_rules.specs.declared.Writer.{Writer}
 use Rattle.inspect_rules.specs.Inspect.{walked, surveyed, summary, inspected}
 use Rattle.inspect_rules.specs.declared.Survey.{Survey}
-use Rattle.inspect_rules.specs.declared.Inspected.TheVariants as answers
 use Rattle.inspect_rules.proofs.Surveys.{walked_all, survey_all}
 use Rattle.inspect_rules.proofs.Answers.{inspected_whole}
 use Rattle.history.specs.Ring.{sequence_of, Ring}
@@ -56,7 +56,7 @@ module _ (cpu capacity : ℕ) (s : List ℕ) (w : Writer) (ring : Ring Event) (h
       ∙ (λ i. record { stop = (page_of s).write_pos; count = count i; first = first i; last = holds_whole.1 i })
 
   pub holds_inspected : inspected s
-      ≡ answers.Whole (record { count = length ring.kept; first = first_of sequence_of ring.kept; last = last_of sequence_of 0 ring.kept })
+      ≡ Ok (record { count = length ring.kept; first = first_of sequence_of ring.kept; last = last_of sequence_of 0 ring.kept })
   holds_inspected =
       inspected_whole s (page_of s) (sound_of h) (ap (λ (v : Survey). v.stop) holds_surveyed)
-      ∙ ap (λ (v : Survey). answers.Whole (summary v)) holds_surveyed
+      ∙ ap (λ (v : Survey). Ok (summary v)) holds_surveyed

@@ -9,6 +9,8 @@ use lib.ListN.{length, drop, length-append}
 use lib.Seq.{drop-append_seam}
 use lib.Dec.{eqb, ltb}
 use borrow.Author.Tests.{eqb-true, eqb-false}
+use Rattle.std.specs.Prelude.{Result, Ok, Err}
+use Rattle.table_rules.specs.declared.Refusal.{Refusal}
 use Rattle.run_rules.specs.Runs.{Rising, last_of}
 use Rattle.table_rules.specs.Table.{first, Stops}
 use Rattle.table_rules.specs.declared.Damage.{Damage}
@@ -18,7 +20,6 @@ use Rattle.table_rules.proofs.Tests.{either, le_or_lt}
 use Rattle.page_rules.specs.Page.{opened}
 use Rattle.page_rules.proofs.Facts.{Sound}
 use Rattle.page_rules.specs.declared.Page.{Page}
-use Rattle.page_rules.specs.declared.Opened.TheVariants as opens
 use Rattle.page_rules.proofs.Sound.{sound}
 use Rattle.event_rules.specs.Event.{event_size, sequence, well_formed, reason_of}
 use Rattle.event_rules.specs.Run.{joined, passable, reason_after, damage_after, Each, sound_run}
@@ -30,7 +31,6 @@ use Rattle.event_rules.proofs.Walks.{Ended, walk_ends, walk_damaged}
 use Rattle.look_rules.specs.Live.{rest, live}
 use Rattle.look_rules.proofs.Laws.{rest_length, live_length, rest_drop}
 use Rattle.inspect_rules.specs.Inspect.{walked, surveyed, damaged, damage_found, inspection_row, inspected_on, inspected}
-use Rattle.inspect_rules.specs.declared.Inspected.TheVariants as inspects
 use Rattle.inspect_rules.proofs.Surveys.{damage_is}
 use Rattle.inspect_rules.proofs.Answers.{inspected_sound, inspected_whole, inspected_damaged}
 use Rattle.writer_rules.specs.Writer.{wrong_writer}
@@ -39,7 +39,6 @@ use Rattle.page_rules.specs.Wake.{need_wake, wakes}
 use Rattle.emit_rules.specs.Emit.{AfterEmit, disagrees, event_of, dropped, accepting, acceptance, ended, emitted_on, emission}
 use Rattle.emit_rules.specs.Emit.{refuse as emitRefuse}
 use Rattle.emit_rules.specs.declared.Label.{Label}
-use Rattle.emit_rules.specs.declared.Outcome.TheVariants as emits
 use Rattle.emit_rules.proofs.Cases as emitCases
 use Rattle.reader_rules.specs.Reader.{wrong_reader}
 use Rattle.reader_rules.specs.Read.{AfterRead, untouched, reading_place, ending, nothing, event_rows, handed_out, next_at, next_opened, read_out}
@@ -48,8 +47,6 @@ use Rattle.reader_rules.specs.declared.Reading.TheVariants as reads
 use Rattle.reader_rules.proofs.Cases as readCases
 use Rattle.reader_rules.specs.Attach.{not_attached}
 use Rattle.reader_rules.specs.declared.Reader.{Reader}
-use Rattle.reader_rules.specs.declared.Attached.{Attached}
-use Rattle.reader_rules.specs.declared.Attachment.TheVariants as attaches
 use Rattle.slip_rules.specs.Copy.{AfterCopy, copy_out}
 use Rattle.slip_rules.specs.Confirm.{confirm_opened}
 use Rattle.slip_rules.specs.AtOnce.{settled, settled_after}
@@ -60,21 +57,20 @@ use Rattle.slip_rules.proofs.AtOnce.{pair_opened_lem}
 use Rattle.follow_rules.specs.Follow.{follow_rows, followed_on, followed}
 use Rattle.follow_rules.proofs.Cases as followCases
 use Rattle.recording_rules.specs.Recording.{AfterRecord, not_recorded, recording_rows, recorded_on, recorded}
-use Rattle.recording_rules.specs.declared.Recorded.TheVariants as records
 use Rattle.recording_rules.proofs.Cases.{recorded_on_lem}
 use Rattle.verification_rules.proofs.Cases.{refused_there}
 use Rattle.swap_rules.specs.Swap.{AfterSwap, swap_rows, exchanging, carried_over, exchange_on, exchange}
 use Rattle.swap_rules.specs.Swap.{refuse_swap as swapRefuse}
-use Rattle.swap_rules.specs.declared.SwapOutcome.TheVariants as swaps
 use Rattle.swap_rules.proofs.Cases as swapCases
 use Rattle.promise.specs.Demand2.{Acceptable}
 use Rattle.promise.specs.Places.{UpTo, Places}
+use Rattle.reader_rules.specs.declared.Answered.{Answered}
 
 -- two constructors are never equal
 differ : {A : Type 0} → ◌≡◌ {A = ℕ} 0 1 → A
 differ z = absurd (let never : ⊥ = omega arith in never)
 
-module _ (s : List ℕ) (p : Page) (is : opened s ≡ opens.Page p) (d : Damage) where
+module _ (s : List ℕ) (p : Page) (is : opened s ≡ Ok p) (d : Damage) where
   abbrev at : ℕ
   at = d.position
 
@@ -110,7 +106,7 @@ module _ (s : List ℕ) (p : Page) (is : opened s ≡ opens.Page p) (d : Damage)
   -- ---- inspection
 
   abbrev Told : Type 0
-  Told = inspected s ≡ inspects.Refused (refusal.Damaged d)
+  Told = inspected s ≡ Err (refusal.Damaged d)
 
   abbrev Stopping : Type 0
   Stopping =
@@ -149,15 +145,15 @@ module _ (s : List ℕ) (p : Page) (is : opened s ≡ opens.Page p) (d : Damage)
       let run : walked s p ≡ events = cut_run (record { split = up.split; whole = (up.each, rises); stops = bad }) in
       let stop : (surveyed s p).stop ≡ at = ap (λ (l : List (List ℕ)). p.tail_pos + length (joined l)) run ∙ place_is events up in
       inspected_damaged s p h (λ (e : (surveyed s p).stop ≡ p.write_pos). omega (arith, up.below, stop, e))
-      ∙ ap (λ (x : Damage). inspects.Refused (refusal.Damaged x)) (damage_is s p)
-      ∙ ap (λ (n : ℕ). inspects.Refused (refusal.Damaged (damage_after p.cpu_id (last_of sequence 0 (walked s p)) n (rest s p n)))) stop
-      ∙ ap (λ (l : List (List ℕ)). inspects.Refused (refusal.Damaged (damage_after p.cpu_id (last_of sequence 0 l) at (rest s p at)))) run
-      ∙ ap (λ (n : ℕ). inspects.Refused (refusal.Damaged (record { position = at; reason = n }))) (sym why)
+      ∙ ap (λ (x : Damage). Err (refusal.Damaged x)) (damage_is s p)
+      ∙ ap (λ (n : ℕ). Err (refusal.Damaged (damage_after p.cpu_id (last_of sequence 0 (walked s p)) n (rest s p n)))) stop
+      ∙ ap (λ (l : List (List ℕ)). Err (refusal.Damaged (damage_after p.cpu_id (last_of sequence 0 l) at (rest s p at)))) run
+      ∙ ap (λ (n : ℕ). Err (refusal.Damaged (record { position = at; reason = n }))) (sym why)
 
   -- by the row that swap and follow ask too
   by_row : damaged s p ≡ true → refusal.Damaged (damage_found s p) ≡ refusal.Damaged d → Told
   unfolding inspected_on
-  by_row met there = inspected_sound s p h ∙ stops inspects.Refused _ 0 (inspection_row s p ∷ []) (refusal.Damaged d) (met, there)
+  by_row met there = inspected_sound s p h ∙ stops Err _ 0 (inspection_row s p ∷ []) (refusal.Damaged d) (met, there)
 
   swap_row : (t : List ℕ) (w : Writer) (turn : ℕ) → Stops turn (swap_rows s p t w) (refusal.Damaged d) → Told
   unfolding swap_rows
@@ -168,16 +164,16 @@ module _ (s : List ℕ) (p : Page) (is : opened s ≡ opens.Page p) (d : Damage)
   swap_row t w (suc (suc (suc (suc zero)))) r = differ (cc r.1.1.1.1.1)
   swap_row t w (suc (suc (suc (suc (suc turn))))) r = absurd r.1.1.1.1.1
 
-  swaps_there : (t : List ℕ) (w : Writer) → (exchange s t w).answer.outcome ≡ swaps.Refused (refusal.Damaged d) → Told
+  swaps_there : (t : List ℕ) (w : Writer) → (exchange s t w).answer.outcome ≡ Err (refusal.Damaged d) → Told
   unfolding exchange_on carried_over
   swaps_there t w e =
       let row =
-      stopped swaps.Refused (exchanging (wakes (need_wake s))) (swap_rows s p t w) (refusal.Damaged d) (λ r q. cc) (never (wakes (need_wake s)))
+      stopped Err (exchanging (wakes (need_wake s))) (swap_rows s p t w) (refusal.Damaged d) (λ r q. cc) (never (wakes (need_wake s)))
       (sym (first_map (λ (a : AfterSwap). a.answer.outcome) (swapRefuse s t w) (carried_over s p t w) (swap_rows s p t w))
       ∙ sym (ap (λ (a : AfterSwap). a.answer.outcome) (swapCases.on_sound s t w p h)) ∙ e) in
       swap_row t w row.0 row.1
     where
-      never : (b : Bool) → exchanging b ≡ swaps.Refused (refusal.Damaged d) → ⊥
+      never : (b : Bool) → exchanging b ≡ Err (refusal.Damaged d) → ⊥
       never true q = differ (cc)
       never false q = differ (cc)
 
@@ -187,11 +183,11 @@ module _ (s : List ℕ) (p : Page) (is : opened s ≡ opens.Page p) (d : Damage)
   recording_row placed (suc zero) r = differ (cc r.1.1)
   recording_row placed (suc (suc turn)) r = absurd r.1.1
 
-  records_there : (placed : ℕ) (out : List ℕ) → (recorded s placed out).answer ≡ records.Refused (refusal.Damaged d) → Told
+  records_there : (placed : ℕ) (out : List ℕ) → (recorded s placed out).answer ≡ Err (refusal.Damaged d) → Told
   unfolding recorded_on
   records_there placed out e =
       let row =
-      stopped records.Refused _ (recording_rows s p placed) (refusal.Damaged d) (λ r q. cc)
+      stopped Err _ (recording_rows s p placed) (refusal.Damaged d) (λ r q. cc)
       (λ q. differ (cc))
       (sym (first_map (λ (a : AfterRecord). a.answer) (not_recorded out) _ (recording_rows s p placed))
       ∙ sym (ap (λ (a : AfterRecord). a.answer) (recorded_on_lem s placed out p h)) ∙ e) in
@@ -204,14 +200,14 @@ module _ (s : List ℕ) (p : Page) (is : opened s ≡ opens.Page p) (d : Damage)
   follow_row reader (suc (suc zero)) r = by_row r.1.1.0 r.1.1.1
   follow_row reader (suc (suc (suc turn))) r = absurd r.1.1.1
 
-  follows_there : (reader : Reader) → (followed s reader).answer ≡ attaches.Refused (refusal.Damaged d) → Told
+  follows_there : (reader : Reader) → (followed s reader).answer ≡ Err (refusal.Damaged d) → Told
   unfolding followed_on
   follows_there reader e =
       let row =
-      stopped attaches.Refused attaches.Done (follow_rows s p reader) (refusal.Damaged d) (λ r q. cc)
+      stopped {A = Result (Unit {0}) Refusal} Err (Ok tt) (follow_rows s p reader) (refusal.Damaged d) (λ r q. cc)
       (λ q. differ (cc))
-      (sym (first_map (λ (a : Attached). a.answer) (not_attached reader) _ (follow_rows s p reader))
-      ∙ sym (ap (λ (a : Attached). a.answer) (followCases.on_sound s reader p h)) ∙ e) in
+      (sym (first_map (λ (a : Answered (Unit {0})). a.answer) (not_attached reader) _ (follow_rows s p reader))
+      ∙ sym (ap (λ (a : Answered (Unit {0})). a.answer) (followCases.on_sound s reader p h)) ∙ e) in
       follow_row reader row.0 row.1
 
   -- ---- emission
@@ -230,7 +226,7 @@ module _ (s : List ℕ) (p : Page) (is : opened s ≡ opens.Page p) (d : Damage)
         × (well_formed p.cpu_id (rest s p at) ≡ false) × (d.reason ≡ reason_of p.cpu_id (p.write_pos - at) (rest s p at))
 
     abbrev says : AfterEmit → Type 0
-    says a = a.answer.outcome ≡ emits.Refused (refusal.Damaged d)
+    says a = a.answer.outcome ≡ Err (refusal.Damaged d)
 
     dropped_says : says (dropped s w label) → Stuck
     unfolding dropped
@@ -242,12 +238,12 @@ module _ (s : List ℕ) (p : Page) (is : opened s ≡ opens.Page p) (d : Damage)
     ended_damaged (walks.Damaged damage) q = cc
     ended_damaged (walks.Room tail passed) q = by (disagrees w passed) q
       where
-        told : (b : Bool) → accepting b ≡ emits.Refused (refusal.Damaged d) → walks.Room tail passed ≡ walks.Damaged d
+        told : (b : Bool) → accepting b ≡ Err (refusal.Damaged d) → walks.Room tail passed ≡ walks.Damaged d
         told true q = differ (cc)
         told false q = differ (cc)
 
         by : (b : Bool) → (cond b (emitRefuse s w refusal.Disagree) (acceptance s p w (event_of p w label payload) tail passed)).answer.outcome
-            ≡ emits.Refused (refusal.Damaged d) → walks.Room tail passed ≡ walks.Damaged d
+            ≡ Err (refusal.Damaged d) → walks.Room tail passed ≡ walks.Damaged d
         by true q = differ (cc)
         by false q = told (wakes (need_wake s)) q
 
@@ -316,7 +312,7 @@ module _ (s : List ℕ) (p : Page) (is : opened s ≡ opens.Page p) (d : Damage)
 
   -- ---- reading
 
-  reads_there : (reader : Reader) (out : List ℕ) → (read_out s reader out).answered.answer ≡ reads.Refused (refusal.Damaged d)
+  reads_there : (reader : Reader) (out : List ℕ) → (read_out s reader out).answered.answer ≡ Err (refusal.Damaged d)
       → (at ≡ reading_place p reader) × (passable p.cpu_id reader.last (rest s p at) ≡ false)
       × (d.reason ≡ reason_after p.cpu_id reader.last (rest s p at))
   unfolding next_opened next_at event_rows ending first
@@ -333,10 +329,10 @@ module _ (s : List ℕ) (p : Page) (is : opened s ≡ opens.Page p) (d : Damage)
 
       by : (wrong ended stands same passes short : Bool) → passable p.cpu_id reader.last bs ≡ passes
           → (first ((wrong, refusal.Reader) ∷ []) (untouched reader out)
-          (cond ended (nothing (cond same reads.Empty reads.Moved) reader.read_pos reader out)
-          (cond stands (nothing (cond same reads.Empty reads.Moved) place reader out)
+          (cond ended (nothing (cond same (Ok reads.Empty) (Ok reads.Moved)) reader.read_pos reader out)
+          (cond stands (nothing (cond same (Ok reads.Empty) (Ok reads.Moved)) place reader out)
           (first ((not passes, refusal.Damaged (damage_after p.cpu_id reader.last place bs)) ∷ (short, refusal.Out) ∷ []) (untouched reader out) (handed_out reader out place bs))))
-          ).answered.answer ≡ reads.Refused (refusal.Damaged d)
+          ).answered.answer ≡ Err (refusal.Damaged d)
           → (at ≡ place) × (passable p.cpu_id reader.last (rest s p at) ≡ false) × (d.reason ≡ reason_after p.cpu_id reader.last (rest s p at))
       by true ended stands same passes short is e = differ (cc)
       by false true stands true passes short is e = differ (cc)
@@ -357,12 +353,12 @@ module _ (s : List ℕ) (p : Page) (is : opened s ≡ opens.Page p) (d : Damage)
 
   module _ (reader : Reader) (out : List ℕ) where
     abbrev Copies : Type 0
-    Copies = (copy_out s reader out).copied.answer ≡ copies.Refused (refusal.Damaged d)
+    Copies = (copy_out s reader out).copied.answer ≡ Err (refusal.Damaged d)
 
     abbrev Reads : Type 0
-    Reads = (read_out s reader out).answered.answer ≡ reads.Refused (refusal.Damaged d)
+    Reads = (read_out s reader out).answered.answer ≡ Err (refusal.Damaged d)
 
-    abbrev as_read : Copying → Reading
+    abbrev as_read : Result Copying Refusal → Result Reading Refusal
     as_read a = (settled (confirm_opened p) a (copy_out s reader out).copied.reader).answer
 
     answers_alike : (read_out s reader out).answered.answer ≡ as_read (copy_out s reader out).copied.answer
@@ -376,11 +372,11 @@ module _ (s : List ℕ) (p : Page) (is : opened s ≡ opens.Page p) (d : Damage)
     copies_too : Reads → Copies
     copies_too e = by (copy_out s reader out).copied.answer (sym answers_alike ∙ e)
       where
-        by : (a : Copying) → as_read a ≡ reads.Refused (refusal.Damaged d) → a ≡ copies.Refused (refusal.Damaged d)
-        by (copies.Event slip) q = differ (cc)
-        by copies.Empty q = differ (cc)
-        by copies.Moved q = differ (cc)
-        by (copies.Refused r) q = cc
+        by : (a : Result Copying Refusal) → as_read a ≡ Err (refusal.Damaged d) → a ≡ Err (refusal.Damaged d)
+        by (Ok (copies.Event slip)) q = differ (cc)
+        by (Ok copies.Empty) q = differ (cc)
+        by (Ok copies.Moved) q = differ (cc)
+        by (Err r) q = cc
 
 pub places : Places
 places s p is d = record {

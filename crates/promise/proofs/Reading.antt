@@ -6,6 +6,7 @@ use mathlib.Core.Path.{◌≡◌, sym, ap, ◌∙◌, subst}
 use mathlib.Core.List.{List, ◌∷◌, ◌++◌, map}
 use lib.ListN.{length, take, drop, length-append}
 use lib.Seq.{take_at, drop_at}
+use Rattle.std.specs.Prelude.{Ok}
 use Rattle.page_rules.specs.Page.{page_of}
 use Rattle.page_rules.specs.declared.Page.{Page}
 use Rattle.page_rules.proofs.Facts.{Sound}
@@ -22,7 +23,6 @@ use Rattle.reader_rules.specs.Attach.{attached}
 use Rattle.reader_rules.specs.Read.{reading_place, Leaves, next_opened, read_out}
 use Rattle.reader_rules.specs.Read.{reading as reads}
 use Rattle.reader_rules.specs.declared.Reader.{Reader}
-use Rattle.reader_rules.specs.declared.Attachment.TheVariants as attachment
 use Rattle.reader_rules.specs.declared.Reading.TheVariants as reading
 use Rattle.reader_rules.proofs.Facts.{Right}
 use Rattle.reader_rules.proofs.Attaching.{attach_done}
@@ -67,7 +67,7 @@ module _ (s : List ℕ) (p : Page) (sound : Sound s p) (reader : Reader) (right 
 
   pub reads_front : read_out s reader out ≡ record {
     answered = record {
-      answer = reading.Event (length event);
+      answer = Ok (reading.Event (length event));
       reader = handed_one (reading_place p reader + length event) (sequence event) reader;
     };
     out = event ++ drop (length event) out;
@@ -76,7 +76,7 @@ module _ (s : List ℕ) (p : Page) (sound : Sound s p) (reader : Reader) (right 
       on_sound s reader out p sound
       ∙ next_front (reads p reader out)
       ∙ (λ i. record {
-        answered = record { answer = reading.Event (says_size i); reader = handed_one (place + says_size i) (says_number i) reader };
+        answered = record { answer = Ok (reading.Event (says_size i)); reader = handed_one (place + says_size i) (says_number i) reader };
         out = says_bytes i ++ drop (says_size i) out;
       })
 
@@ -85,10 +85,10 @@ abbrev pub record_of : ℕ → Place → Reader
 record_of generation r = reader_with r.read_pos r.last r.handed generation
 
 pub attaches : (cpu capacity : ℕ) (s : List ℕ) (w : Writer) (ring : Ring Event) → Holds cpu capacity s w ring → (any : Reader)
-    → attached s any ≡ record { answer = attachment.Done; reader = record_of (page_of s).generation (attach_at ring) }
+    → attached s any ≡ record { answer = Ok tt; reader = record_of (page_of s).generation (attach_at ring) }
 attaches cpu capacity s w ring h any =
     attach_done s any (page_of s) (sound_of h)
-    ∙ ap (λ (r : Reader). record { answer = attachment.Done; reader = r })
+    ∙ ap (λ (r : Reader). record { answer = Ok tt; reader = r })
     (says_with (attached_says (page_of s)) ∙ ap (λ (tail : ℕ). reader_with tail 0 0 (page_of s).generation) h.tail_is)
 
 module _ (cpu capacity : ℕ) (s : List ℕ) (w : Writer) (ring : Ring Event) (h : Holds cpu capacity s w ring) where
@@ -98,11 +98,11 @@ module _ (cpu capacity : ℕ) (s : List ℕ) (w : Writer) (ring : Ring Event) (h
   -- a reader with no event left
   pub reads_empty : (reader : Reader) (out : List ℕ) → reading_place p reader ≡ write size ring → reader.read_pos ≤ write size ring
       → reader.handed ≤ reader.last → p.generation ≡ reader.generation
-      → read_out s reader out ≡ record { answered = record { answer = reading.Empty; reader = moved_to (write size ring) reader }; out = out }
+      → read_out s reader out ≡ record { answered = record { answer = Ok reading.Empty; reader = moved_to (write size ring) reader }; out = out }
   reads_empty reader out end behind counted same =
       read_empty s reader out p (sound_of h)
       (record { counted = counted; behind = omega (arith, behind, h.write_is) }) (end ∙ sym h.write_is) same
-      ∙ ap (λ (k : ℕ). record { answered = record { answer = reading.Empty; reader = moved_to k reader }; out = out }) end
+      ∙ ap (λ (k : ℕ). record { answered = record { answer = Ok reading.Empty; reader = moved_to k reader }; out = out }) end
 
   module _ (front : List (Numbered Event)) (x : Numbered Event) (more : List (Numbered Event)) (cut : ring.kept ≡ front ++ (x ∷ more)) where
     -- where the event begins
@@ -144,7 +144,7 @@ module _ (cpu capacity : ℕ) (s : List ℕ) (w : Writer) (ring : Ring Event) (h
         → read_out s reader out
         ≡ record {
           answered = record {
-            answer = reading.Event (size x.event);
+            answer = Ok (reading.Event (size x.event));
             reader = handed_one (at + size x.event) x.sequence reader;
           };
           out = encode cpu x ++ drop (size x.event) out;
@@ -158,7 +158,7 @@ module _ (cpu capacity : ℕ) (s : List ℕ) (w : Writer) (ring : Ring Event) (h
         (ap (rest s p) stands ∙ rest_is) (omega (arith, above, number)) out (omega (arith, long, bytes))
         ∙ (λ i. record {
           answered = record {
-            answer = reading.Event (bytes i);
+            answer = Ok (reading.Event (bytes i));
             reader = handed_one (stands i + bytes i) (number i) reader;
           };
           out = encode cpu x ++ drop (bytes i) out;

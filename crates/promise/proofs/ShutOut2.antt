@@ -9,6 +9,7 @@ use mathlib.Core.List.{List, [], ◌∷◌, ◌++◌, map}
 use lib.ListN.{length, get_or, drop, replicate, length-replicate}
 use lib.Seq.{drop_at, get_or-set_same}
 use lib.Dec.{eqb}
+use Rattle.std.specs.Prelude.{Ok, Err}
 use Rattle.table_rules.specs.declared.Refusal.{Refusal}
 use Rattle.capacity_rules.specs.Capacity.{power_among, allowed}
 use Rattle.word_rules.specs.Number.{number}
@@ -26,7 +27,7 @@ use Rattle.event_rules.proofs.Facts.{Fit, heading}
 use Rattle.look_rules.specs.Live.{live}
 use Rattle.writer_rules.specs.Writer.{zeros}
 use Rattle.emit_rules.specs.Emit.{dropped}
-use Rattle.emit_rules.specs.declared.Outcome.TheVariants.{Wake, Dropped, Refused}
+use Rattle.emit_rules.specs.declared.Outcome.TheVariants.{Wake, Dropped}
 use Rattle.run_rules.specs.Runs.{latest, older}
 use Rattle.history.specs.Ring.{fresh}
 use Rattle.history.proofs.Ideal.{emit}
@@ -63,7 +64,7 @@ event time fits = record {
 }
 
 -- no refusal is to be given for such an event on a fresh ring
-not_given : (r : Refusal) (waits : Bool) → Given 256 0 0 32 waits (Refused r) → ⊥
+not_given : (r : Refusal) (waits : Bool) → Given 256 0 0 32 waits (Err r) → ⊥
 not_given r waits given = ⊎_elim (λ h. omega (arith, h.1)) (λ h. omega (arith, h.3)) given
 
 module _ (buffer : List ℕ) (long : length buffer ≡ 8192 + 256) (page : List ℕ) (whole : length page ≡ 4096) where
@@ -84,11 +85,11 @@ module _ (buffer : List ℕ) (long : length buffer ≡ 8192 + 256) (page : List 
 
   refusing_shut : (r : Refusal) → FreshBy2 (refusing_emission r) → ⊥
   unfolding made_by
-  refusing_shut r meets = not_given r (waiting first) (((promised (refusing_emission r) meets).exact.0 (Refused r)).0 refl)
+  refusing_shut r meets = not_given r (waiting first) (((promised (refusing_emission r) meets).exact.0 (Err r)).0 refl)
 
   dropping_shut : FreshBy2 dropping → ⊥
   unfolding made_by dropped
-  dropping_shut meets = omega (arith, (((promised dropping meets).exact.0 Dropped).0 refl).1)
+  dropping_shut meets = omega (arith, (((promised dropping meets).exact.0 (Ok Dropped)).0 refl).1)
 
   inventing_shut : (drops overwrites : ℕ) → 0 < drops + overwrites → FreshBy2 (inventing drops overwrites) → ⊥
   unfolding after_by
@@ -114,8 +115,8 @@ module _ (buffer : List ℕ) (long : length buffer ≡ 8192 + 256) (page : List 
   unraising_shut waits meets =
       let promise = (fresh2 0 256 (omega arith) fit buffer long (first ∷ [])).1 in
       let flagged : wakes (get_or page 0 0) ≡ true = ap wakes waits ∙ all_but_zero.1 1 (λ (e : ◌≡◌ {A = ℕ} 1 0). omega arith) in
-      let told : (emitted begun first).answer.outcome ≡ Wake =
-      (promise.exact.0 Wake).1 (flagged, (λ (e : ◌≡◌ {A = ℕ} 0 (2 ^ 64 - 1)). omega arith, omega arith, omega arith)) in
+      let told : (emitted begun first).answer.outcome ≡ (Ok Wake) =
+      (promise.exact.0 (Ok Wake)).1 (flagged, (λ (e : ◌≡◌ {A = ℕ} 0 (2 ^ 64 - 1)). omega arith, omega arith, omega arith)) in
       let now : List ℕ = consumed begun.ring page in
       let wide : 8192 ≤ length now = omega (arith, one_long, ap length promise.ring ∙ layer_length _ _ now _ _ _ _) in
       omega (

@@ -7,6 +7,7 @@ use mathlib.Core.Bool.{Bool, true, false}
 use mathlib.Core.List.{List, [], ◌∷◌, map}
 use lib.ListN.{length, get_or, length-map, length-append}
 use borrow.Author.Tests.{eqb-true, eqb-false}
+use Rattle.std.specs.Prelude.{Result, Err}
 use Rattle.table_rules.specs.Table.{first}
 use Rattle.table_rules.specs.declared.Refusal.{Refusal}
 use Rattle.table_rules.specs.declared.Refusal.TheVariants.{Size, Generation}
@@ -30,7 +31,6 @@ use Rattle.inspect_rules.specs.Inspect.{walked}
 use Rattle.inspect_rules.specs.declared.Survey.{Survey}
 use Rattle.swap_rules.specs.Swap.{AfterSwap, last_generation, exchanging, new_ring, retired, carried_over, exchange_on, exchange}
 use Rattle.swap_rules.specs.declared.SwapOutcome.{SwapOutcome}
-use Rattle.swap_rules.specs.declared.SwapOutcome.TheVariants.{Refused}
 use Rattle.swap_rules.proofs.Facts.{Carriable}
 use Rattle.swap_rules.proofs.Cases.{on_sound, size_refused, generation_refused, swaps as carries}
 use Rattle.swap_rules.proofs.Rings.{Exchanged, swapped_sound}
@@ -200,30 +200,30 @@ module _ (cpu before : ℕ) (s : State) (ring : Ring Event) (h : Holds cpu befor
           frozen = retired_holds room whole fits later;
         }
 
-  abbrev outcome : SwapOutcome
+  abbrev outcome : Result SwapOutcome Refusal
   outcome = (swap s t).answer.outcome
 
   opens : after ≡ exchange_on s.ring p t s.writer
   opens = on_sound s.ring t s.writer p (sound_of h)
 
-  answers : outcome ≡ first ((wrong_size t, Size) ∷ (last_generation p, Generation) ∷ []) Refused (exchanging (wakes (need_wake s.ring)))
+  answers : outcome ≡ first ((wrong_size t, Size) ∷ (last_generation p, Generation) ∷ []) Err (exchanging (wakes (need_wake s.ring)))
   unfolding first last_generation carried_over
   answers = by (wrong_size t) (last_generation p) refl refl
     where
       by : (a b : Bool) → wrong_size t ≡ a → last_generation p ≡ b
-          → outcome ≡ first ((a, Size) ∷ (b, Generation) ∷ []) Refused (exchanging (wakes (need_wake s.ring)))
+          → outcome ≡ first ((a, Size) ∷ (b, Generation) ∷ []) Err (exchanging (wakes (need_wake s.ring)))
       by true b e f = ap (λ (a : AfterSwap). a.answer.outcome) (opens ∙ size_refused s.ring t s.writer p h.right e)
       by false true e f =
           ap (λ (a : AfterSwap). a.answer.outcome)
           (opens ∙ generation_refused s.ring t s.writer p h.right e (eqb-true p.generation (2 ^ 64 - 1) f))
       by false false e f = ap (λ (a : AfterSwap). a.answer.outcome) (carried e f)
 
-  promises : ((r : Refusal) → outcome ≢ Refused r) → SwapPromise cpu before ring s t
+  promises : ((r : Refusal) → outcome ≢ Err r) → SwapPromise cpu before ring s t
   unfolding first
   promises never = by (wrong_size t) (last_generation p) refl refl answers
     where
       by : (a b : Bool) → wrong_size t ≡ a → last_generation p ≡ b
-          → outcome ≡ first ((a, Size) ∷ (b, Generation) ∷ []) Refused (exchanging (wakes (need_wake s.ring)))
+          → outcome ≡ first ((a, Size) ∷ (b, Generation) ∷ []) Err (exchanging (wakes (need_wake s.ring)))
           → SwapPromise cpu before ring s t
       by true b e f is = absurd (never Size is)
       by false true e f is = absurd (never Generation is)

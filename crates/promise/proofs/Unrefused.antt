@@ -4,8 +4,8 @@ use native.Mathlib.Omega.{arith}
 use mathlib.Core.Path.{◌≡◌, sym, subst}
 use mathlib.Core.Logic.{inl, inr}
 use mathlib.Core.List.{List, [], ◌∷◌, ◌++◌, append-nil}
+use Rattle.std.specs.Prelude.{Err}
 use Rattle.table_rules.specs.declared.Refusal.{Refusal}
-use Rattle.emit_rules.specs.declared.Outcome.TheVariants.{Refused}
 use Rattle.history.specs.Ring.{Numbered, Answer, write}
 use Rattle.history.proofs.Ideal.{emit}
 use Rattle.history.specs.Ring as answers
@@ -27,7 +27,7 @@ takes_size answers.Dropped x = omega arith
 takes_size (answers.Refused n) x = omega arith
 
 not_given : (capacity last w size : ℕ) (t : Turn) (r : Refusal) → last + 1 < 2 ^ 64 → w + size ≤ 2 ^ 62
-    → Given capacity last w size (waiting t) (Refused r) → ⊥
+    → Given capacity last w size (waiting t) (Err r) → ⊥
 not_given capacity last w size t r few near (inl g) = omega (arith, g.1)
 not_given capacity last w size t r few near (inr g) = omega (arith, g.3)
 

@@ -2,7 +2,7 @@
 -- else; nothing is dropped but what is above half the capacity; and last is made up of the events kept, dropped and overwritten.
 -- A history is any list of calls, so what holds after it holds at every point of every history. What was accepted and what was dropped is read off
 -- the calls' answers, what is kept off the bytes.
-use Rattle.std.specs.Prelude.{ℕ, ◌+◌, ◌-◌, ◌/◌, ◌%◌, ◌^◌, ◌≤◌, ◌<◌}
+use Rattle.std.specs.Prelude.{ℕ, ◌+◌, ◌-◌, ◌/◌, ◌%◌, ◌^◌, ◌≤◌, ◌<◌, Result, Ok, Err}
 use mathlib.Core.{Path.◌≡◌, Logic.◌⊎◌, Logic.◌≢◌, Logic.◌↔◌, Bool.Bool, Bool.true, Bool.false, List.List, List.[], List.◌∷◌, List.◌++◌, List.map}
 use lib.{ListN.length, ListN.get_or}
 use Rattle.table_rules.specs.{declared.Refusal.Refusal, Refusals.paper_number}
@@ -12,10 +12,10 @@ use Rattle.page_rules.specs.{Page.page_of, Page.positions, Wake.futex_counter, W
 use Rattle.region_rules.specs.{Region.store_at}
 use Rattle.event_rules.specs.{Run.joined}
 use Rattle.look_rules.specs.{Live.live}
-use Rattle.create_rules.specs.{Create.created, Create.after_create, declared.Created.TheVariants.Done as createsDone}
+use Rattle.create_rules.specs.{Create.created, Create.after_create}
 use Rattle.emit_rules.specs.{declared.Outcome.Outcome}
-use Rattle.emit_rules.specs.declared.Outcome.TheVariants.{Done, Wake, Dropped, Refused}
-use Rattle.inspect_rules.specs.{Inspect.inspected, declared.Inspected.TheVariants.Whole}
+use Rattle.emit_rules.specs.declared.Outcome.TheVariants.{Done, Wake, Dropped}
+use Rattle.inspect_rules.specs.{Inspect.inspected}
 use Rattle.writer_rules.specs.{Writer.zeros}
 use Rattle.run_rules.specs.{Runs.last_of, Runs.first_of, Runs.total, Runs.LongestRun}
 use Rattle.history.specs.{Ring.sequence_of, Ring.Numbered, Ring.Ring, Ring.fresh, Ring.write, Calls.uses, Calls.used, Calls.dropped_of}
@@ -29,11 +29,11 @@ Acceptable capacity last write size = (last ≢ 2 ^ 64 - 1) × (size ≤ capacit
 
 -- When an outcome is given, by the capacity, the last sequence and the write position before the call, the event's size, and whether the consumer
 -- waits. No refusal is given but 8 and 9, and neither before the sequences or the positions are used up.
-abbrev pub Given : ℕ → ℕ → ℕ → ℕ → Bool → Outcome → Type 0
-Given capacity last write size waits Done = (waits ≡ false) × Acceptable capacity last write size
-Given capacity last write size waits Wake = (waits ≡ true) × Acceptable capacity last write size
-Given capacity last write size waits Dropped = (last ≢ 2 ^ 64 - 1) × (capacity / 2 < size)
-Given capacity last write size waits (Refused r) =
+abbrev pub Given : ℕ → ℕ → ℕ → ℕ → Bool → Result Outcome Refusal → Type 0
+Given capacity last write size waits (Ok Done) = (waits ≡ false) × Acceptable capacity last write size
+Given capacity last write size waits (Ok Wake) = (waits ≡ true) × Acceptable capacity last write size
+Given capacity last write size waits (Ok Dropped) = (last ≢ 2 ^ 64 - 1) × (capacity / 2 < size)
+Given capacity last write size waits (Err r) =
     ((paper_number r ≡ 8) × (last ≡ 2 ^ 64 - 1))
     ⊎ ((paper_number r ≡ 9) × (last ≢ 2 ^ 64 - 1) × (size ≤ capacity / 2) × (2 ^ 62 < write + size))
 
@@ -45,14 +45,14 @@ waiting t = wakes (get_or t.page 0 0)
 abbrev pub Exact : ℕ → ℕ → ℕ → List Made → Type 0
 Exact capacity last write [] = Unit {0}
 Exact capacity last write (m ∷ ms) =
-    ((o : Outcome) → (m.answer.outcome ≡ o) ↔ Given capacity last write (size m.turn.event) (waiting m.turn) o)
+    ((o : Result Outcome Refusal) → (m.answer.outcome ≡ o) ↔ Given capacity last write (size m.turn.event) (waiting m.turn) o)
     × (m.answer.writer.last ≡ last + uses (answer_of m.answer.outcome))
     × Exact capacity m.answer.writer.last (write + taken (accepted_of (m ∷ []))) ms
 
 -- no call was refused
 abbrev pub NoneRefused : List Made → Type 0
 NoneRefused [] = Unit {0}
-NoneRefused (m ∷ ms) = ((r : Refusal) → m.answer.outcome ≢ Refused r) × NoneRefused ms
+NoneRefused (m ∷ ms) = ((r : Refusal) → m.answer.outcome ≢ Err r) × NoneRefused ms
 
 -- the ring without bytes that these events, the page and the record make up
 abbrev pub shown : List (Numbered Event) → State → Ring Event
@@ -74,7 +74,7 @@ pub record Promise (cpu capacity : ℕ) (beginning : Ring Event) (without : List
   -- 6.4: a call drops its event for its size alone; and none is refused but by 8 and 9
   pub exact : Exact capacity beginning.last (write size beginning) calls
   -- inspection never refuses: it finds the events kept
-  pub inspection : inspected end.ring ≡ Whole (record { count = length kept; first = first_of sequence_of kept; last = last_of sequence_of 0 kept })
+  pub inspection : inspected end.ring ≡ Ok (record { count = length kept; first = first_of sequence_of kept; last = last_of sequence_of 0 kept })
   -- last is made up of the events kept, dropped and overwritten: kept is inspection's count, dropped is from the calls,
   -- overwritten is the record's
   pub counts : end.writer.last ≡ length kept + (beginning.dropped + dropped_of (map call_of calls)) + end.writer.overwritten
@@ -106,7 +106,7 @@ created_state cpu buffer = record { ring = after_create cpu buffer; writer = zer
 abbrev pub FreshBy2 : Emission → Type 0
 FreshBy2 make =
     (cpu capacity : ℕ) → cpu < 2 ^ 16 → allowed capacity ≡ true → (buffer : List ℕ) → length buffer ≡ 8192 + capacity → (turns : List Turn) →
-    (created buffer ≡ createsDone)
+    (created buffer ≡ Ok tt)
     × Promise cpu capacity fresh (uncalled (after_create cpu buffer) turns) (made_by make (created_state cpu buffer) turns)
     (after_by make (created_state cpu buffer) turns)
 

@@ -1,8 +1,8 @@
 -- RULES 4.4: a ring's bytes and its writer's record that stand for a ring without bytes: any such may be the beginning of a history.
-use Rattle.std.specs.Prelude.{ℕ, ◌^◌, ◌<◌}
+use Rattle.std.specs.Prelude.{ℕ, ◌^◌, ◌<◌, Ok}
 use mathlib.Core.{Path.◌≡◌, Bool.false, List.List, List.map}
 use lib.{ListN.get_or}
-use Rattle.page_rules.specs.{Page.page_of, Page.opened, declared.Opened.TheVariants.Page}
+use Rattle.page_rules.specs.{Page.page_of, Page.opened}
 use Rattle.event_rules.specs.{Run.joined}
 use Rattle.look_rules.specs.{Live.live}
 use Rattle.writer_rules.specs.{Writer.wrong_writer, declared.Writer.Writer}
@@ -11,7 +11,7 @@ use Rattle.promise.specs.{Bytes.Event, Bytes.size, Bytes.encode}
 
 pub record Holds (cpu capacity : ℕ) (s : List ℕ) (w : Writer) (ring : Ring Event) : Type 0 where
   pub narrow : cpu < 2 ^ 16
-  pub opens : opened s ≡ Page (page_of s)
+  pub opens : opened s ≡ Ok (page_of s)
   -- the first page is of bytes
   pub bytewise : (i : ℕ) → i < 4096 → get_or s i 0 < 256
   pub named : (page_of s).cpu_id ≡ cpu

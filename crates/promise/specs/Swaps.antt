@@ -1,13 +1,13 @@
 -- RULES 7.12: what a swap promises, of any ring that holds together with its record. A created ring does, so does one after any calls (`Promise` ends
 -- in `holds`) and one that a swap has made (`begins`): so this is said of every swap in every history of calls and swaps on the newest ring.
-use Rattle.std.specs.Prelude.{ℕ, ◌+◌, ◌-◌, ◌%◌, ◌^◌}
+use Rattle.std.specs.Prelude.{ℕ, ◌+◌, ◌-◌, ◌%◌, ◌^◌, Err}
 use mathlib.Core.{Path.◌≡◌, Logic.◌≢◌, Bool.cond, List.List, List.[], List.◌∷◌}
 use lib.{ListN.length}
 use Rattle.run_rules.specs.{Runs.LongestRun}
 use Rattle.table_rules.specs.{Table.first, declared.Refusal.Refusal, declared.Refusal.TheVariants.Size, declared.Refusal.TheVariants.Generation}
 use Rattle.page_rules.specs.{Page.page_of, Wake.futex_counter, Wake.need_wake, Wake.wakes}
 use Rattle.create_rules.specs.{Create.wrong_size}
-use Rattle.swap_rules.specs.{Swap.AfterSwap, Swap.last_generation, Swap.exchanging, Swap.exchange, declared.SwapOutcome.TheVariants.Refused}
+use Rattle.swap_rules.specs.{Swap.AfterSwap, Swap.last_generation, Swap.exchanging, Swap.exchange}
 use Rattle.history.specs.{Ring.Numbered, Ring.Ring}
 use Rattle.promise.specs.{Bytes.Event, Bytes.encode, Bytes.State, Bytes.Turn, Bytes.uncalled, Bytes.made, Bytes.after, Holds.Holds, Demand2.Promise}
 
@@ -49,5 +49,5 @@ abbrev pub Swaps : Type 0
 Swaps =
     (cpu before : ℕ) (ring : Ring Event) (s : State) → Holds cpu before s.ring s.writer ring → (t : List ℕ) →
     ((swap s t).answer.outcome
-    ≡ first ((wrong_size t, Size) ∷ (last_generation (page_of s.ring), Generation) ∷ []) Refused (exchanging (wakes (need_wake s.ring))))
-    × (((r : Refusal) → (swap s t).answer.outcome ≢ Refused r) → SwapPromise cpu before ring s t)
+    ≡ first ((wrong_size t, Size) ∷ (last_generation (page_of s.ring), Generation) ∷ []) Err (exchanging (wakes (need_wake s.ring))))
+    × (((r : Refusal) → (swap s t).answer.outcome ≢ Err r) → SwapPromise cpu before ring s t)

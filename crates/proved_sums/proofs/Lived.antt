@@ -1,5 +1,5 @@
 -- The rings of the sums hold what the ring without bytes comes to: a created one begins so (`created_holds`), and call by call the two go alike (`same_calls`).
-use Prim.Native.Nat.{ℕ, ◌+◌, ◌-◌}
+use Prim.Native.Nat.{ℕ, ◌+◌}
 use native.Mathlib.Omega.{arith}
 use mathlib.Core.Path.{◌≡◌, ap, ◌∙◌}
 use mathlib.Core.Bool.{true}

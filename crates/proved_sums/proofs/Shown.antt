@@ -4,8 +4,8 @@ use native.Mathlib.Omega.{arith}
 use mathlib.Core.Path.{◌≡◌, refl, sym, ap, ap₂, ◌∙◌}
 use mathlib.Core.List.{List, [], ◌∷◌, map}
 use lib.ListN.{length-map}
+use Rattle.std.specs.Prelude.{Ok}
 use Rattle.event_rules.specs.Event.{sequence}
-use Rattle.inspect_rules.specs.declared.Inspected.TheVariants as answers
 use Rattle.run_rules.specs.Runs.{Rising, last_of, first_of, total}
 use Rattle.history.specs.Ring.{sequence_of, Numbered, Ring, bytes, write}
 use Rattle.run_rules.proofs.Rising.{rising_length}
@@ -52,12 +52,12 @@ module _ (capacity : ℕ) (s : State) (ring : Ring Event) (h : Holds 3 capacity 
     tail_is = h.tail_is ∙ at;
     write_is = h.write_is ∙ to;
     inspection = holds_inspected 3 capacity s.ring s.writer ring h
-        ∙ (λ i. answers.Whole (record {
+        ∙ (λ i. Ok (record {
           count = sym (length-map ring.kept (λ (x : Numbered Event). x.sequence)) i;
           first = oldest_number ring.kept i;
           last = newest_number 0 ring.kept i;
         }))
-        ∙ ap (λ (l : List ℕ). answers.Whole (summary_of l)) are;
+        ∙ ap (λ (l : List ℕ). Ok (summary_of l)) are;
     kept_are = ap (map sequence) (walked_kept 3 capacity s.ring s.writer ring h)
         ∙ sequences 3 h.narrow 0 ring.kept (omega (arith, h.holding.fits, holds_range 3 capacity s.ring s.writer ring h)) h.holding.rising
         (omega (arith, h.holding.known, h.holding.spendable))

@@ -6,6 +6,7 @@ use mathlib.Core.Bool.{true}
 use mathlib.Core.List.{List, [], ◌∷◌, ◌++◌}
 use lib.ListN.{length, take, drop, length-append}
 use lib.Seq.{drop_at}
+use Rattle.std.specs.Prelude.{Ok}
 use Rattle.capacity_rules.specs.Capacity.{allowed, power_among}
 use Rattle.page_rules.specs.Page.{page_of}
 use Rattle.create_rules.specs.Create.{after_create}
@@ -13,7 +14,6 @@ use Rattle.reader_rules.specs.Reader.{missed, reader_with}
 use Rattle.reader_rules.specs.Attach.{attached}
 use Rattle.reader_rules.specs.Read.{AfterRead, read_out}
 use Rattle.reader_rules.specs.declared.Reader.{Reader}
-use Rattle.reader_rules.specs.declared.Attachment.TheVariants.{Done}
 use Rattle.reader_rules.specs.declared.Reading.TheVariants as reading
 use Rattle.reader_rules.proofs.Life.{says_with, moved_nowhere, handed_says}
 use Rattle.writer_rules.specs.Writer.{zeros}
@@ -54,11 +54,11 @@ module _ (given : ℕ → Turn) (buffer : ℕ → List ℕ) (sized : (capacity :
 
   -- ---- line 6
 
-  attaches : (old : Reader) → attached (after_create 3 (buffer 256)) old ≡ record { answer = Done; reader = standing 0 0 0 }
+  attaches : (old : Reader) → attached (after_create 3 (buffer 256)) old ≡ record { answer = Ok tt; reader = standing 0 0 0 }
   unfolding allowed power_among
   attaches old =
       attach-held 3 256 (after_create 3 (buffer 256)) zeros fresh (begins given buffer sized 256 refl) old
-      ∙ ap (λ (n : ℕ). record { answer = Done; reader = reader_with 0 0 0 n }) (first_generation given buffer sized 256 refl)
+      ∙ ap (λ (n : ℕ). record { answer = Ok tt; reader = reader_with 0 0 0 n }) (first_generation given buffer sized 256 refl)
 
   reads : (out : List ℕ) → 128 ≤ length out → Reads (lived given buffer 256 five).ring out (numbered_bytes given 6) (numbered_bytes given 7)
   unfolding allowed power_among emit latest older after cut
@@ -72,13 +72,13 @@ module _ (given : ℕ → Turn) (buffer : ℕ → List ℕ) (sized : (capacity :
       let next : List ℕ = numbered_bytes given 6 ++ drop 128 out in
       let reads_six = reads_event 3 256 s w ring h [] (event 6) (event 7 ∷ []) refl (omega arith) in
       let reads_seven = reads_event 3 256 s w ring h (event 6 ∷ []) (event 7) [] refl (omega arith) in
-      let first : read_out s (standing 0 0 0) out ≡ answering (reading.Event 128) (standing 416 6 1) next =
+      let first : read_out s (standing 0 0 0) out ≡ answering (Ok (reading.Event 128)) (standing 416 6 1) next =
       reads_six (standing 0 0 0) out (omega arith) (omega arith) (omega arith) (omega arith) long
-      ∙ ap (λ (r : Reader). answering (reading.Event 128) r next) (says_with (handed_says 416 6 (standing 0 0 0))) in
-      let second : read_out s (standing 416 6 1) next ≡ answering (reading.Event 128) (standing 544 7 2) (numbered_bytes given 7 ++ drop 128 out) =
+      ∙ ap (λ (r : Reader). answering (Ok (reading.Event 128)) r next) (says_with (handed_says 416 6 (standing 0 0 0))) in
+      let second : read_out s (standing 416 6 1) next ≡ answering (Ok (reading.Event 128)) (standing 544 7 2) (numbered_bytes given 7 ++ drop 128 out) =
       reads_seven (standing 416 6 1) next (omega arith) (omega arith) (omega arith) (omega arith)
       (omega (arith, length-append (numbered_bytes given 6) (drop 128 out), six))
-      ∙ ap₂ (λ (r : Reader) (l : List ℕ). answering (reading.Event 128) r (numbered_bytes given 7 ++ l))
+      ∙ ap₂ (λ (r : Reader) (l : List ℕ). answering (Ok (reading.Event 128)) r (numbered_bytes given 7 ++ l))
       (says_with (handed_says 544 7 (standing 416 6 1))) (drop_at (numbered_bytes given 6) (drop 128 out) 128 six) in
       record {
         first = first;
@@ -87,7 +87,7 @@ module _ (given : ℕ → Turn) (buffer : ℕ → List ℕ) (sized : (capacity :
         second_missed = ap (λ (o : AfterRead). missed o.answered.reader) second ∙ refl;
         third = reads_empty 3 256 s w ring h (standing 544 7 2) (numbered_bytes given 7 ++ drop 128 out) (omega arith) (omega arith) (omega arith)
             (lived_generation given buffer sized 256 refl five)
-            ∙ ap (λ (r : Reader). answering reading.Empty r (numbered_bytes given 7 ++ drop 128 out)) (moved_nowhere 544 (standing 544 7 2) refl);
+            ∙ ap (λ (r : Reader). answering (Ok reading.Empty) r (numbered_bytes given 7 ++ drop 128 out)) (moved_nowhere 544 (standing 544 7 2) refl);
       }
 
   -- ---- lines 7 to 9

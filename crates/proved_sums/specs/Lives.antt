@@ -1,12 +1,12 @@
 -- The rings that the sums tell of: what was called on them, and what their bytes show.
-use Rattle.std.specs.Prelude.{ℕ, zero, suc}
+use Rattle.std.specs.Prelude.{ℕ, zero, suc, Ok}
 use mathlib.Core.{Path.◌≡◌, List.List, List.[], List.◌∷◌, List.map}
 use lib.{ListN.length, ListN.get_or}
 use Rattle.run_rules.specs.{Runs.last_of, Runs.first_of}
 use Rattle.page_rules.specs.{Page.page_of}
 use Rattle.event_rules.specs.{Event.sequence}
 use Rattle.writer_rules.specs.{declared.Writer.Writer}
-use Rattle.inspect_rules.specs.{Inspect.walked, Inspect.inspected, declared.Summary.Summary, declared.Inspected.TheVariants.Whole}
+use Rattle.inspect_rules.specs.{Inspect.walked, Inspect.inspected, declared.Summary.Summary}
 use Rattle.history.specs.{Ring.Answer, Calls.Call}
 use Rattle.promise.specs.{Bytes.Event, Bytes.State, Bytes.Turn, Bytes.made, Bytes.after, Bytes.call_of, Demand2.created_state}
 
@@ -53,7 +53,7 @@ pub record Shows (s : State) (capacity tail write : ℕ) (kept : List ℕ) (coun
   pub capacity_is : (page_of s.ring).capacity ≡ capacity
   pub tail_is : (page_of s.ring).tail_pos ≡ tail
   pub write_is : (page_of s.ring).write_pos ≡ write
-  pub inspection : inspected s.ring ≡ Whole (summary_of kept)
+  pub inspection : inspected s.ring ≡ Ok (summary_of kept)
   -- the sequences of the events that inspection passes
   pub kept_are : map sequence (walked s.ring (page_of s.ring)) ≡ kept
   -- what the record counts

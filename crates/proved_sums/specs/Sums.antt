@@ -1,12 +1,13 @@
 -- RULES 9.1: lines 1 to 10 of the sums, one table over the operations' definitions on bytes.
-use Rattle.std.specs.Prelude.{ℕ, ◌+◌, ◌≤◌}
+use Rattle.std.specs.Prelude.{ℕ, ◌+◌, ◌≤◌, Result, Ok}
+use Rattle.table_rules.specs.declared.Refusal.{Refusal}
 use mathlib.Core.{Path.◌≡◌, List.List, List.[], List.◌∷◌, List.◌++◌}
 use lib.{ListN.length, ListN.take, ListN.drop}
 use Rattle.page_rules.specs.{Page.page_of}
 use Rattle.writer_rules.specs.{Writer.Numbers, declared.Writer.Writer}
 use Rattle.create_rules.specs.{Create.after_create}
 use Rattle.reader_rules.specs.{Reader.missed, Reader.reader_with, Attach.attached, Read.AfterRead, Read.read_out}
-use Rattle.reader_rules.specs.{declared.Reader.Reader, declared.Reading.Reading, declared.Attachment.TheVariants.Done as attachmentDone}
+use Rattle.reader_rules.specs.{declared.Reader.Reader, declared.Reading.Reading}
 use Rattle.reader_rules.specs.declared.Reading.TheVariants.{Empty as readingEmpty, Event as readingEvent}
 use Rattle.run_rules.specs.{Runs.EndPart}
 use Rattle.history.specs.{Ring.Done, Ring.Dropped}
@@ -39,16 +40,16 @@ counted last dropped overwritten w = Numbers w last dropped overwritten
 abbrev pub standing : ℕ → ℕ → ℕ → Reader
 standing place last handed = reader_with place last handed 1
 
-abbrev pub answering : Reading → Reader → List ℕ → AfterRead
+abbrev pub answering : Result Reading Refusal → Reader → List ℕ → AfterRead
 answering answer reader out = record { answered = record { answer = answer; reader = reader }; out = out }
 
 -- three reads one after the other, each with the record and the output buffer that the one before left: the answer, the record and every byte
 pub record Reads (ring out six seven : List ℕ) : Type 0 where
-  pub first : read_out ring (standing 0 0 0) out ≡ answering (readingEvent 128) (standing 416 6 1) (six ++ drop 128 out)
+  pub first : read_out ring (standing 0 0 0) out ≡ answering (Ok (readingEvent 128)) (standing 416 6 1) (six ++ drop 128 out)
   pub first_missed : missed (read_out ring (standing 0 0 0) out).answered.reader ≡ 5
-  pub second : read_out ring (standing 416 6 1) (six ++ drop 128 out) ≡ answering (readingEvent 128) (standing 544 7 2) (seven ++ drop 128 out)
+  pub second : read_out ring (standing 416 6 1) (six ++ drop 128 out) ≡ answering (Ok (readingEvent 128)) (standing 544 7 2) (seven ++ drop 128 out)
   pub second_missed : missed (read_out ring (standing 416 6 1) (six ++ drop 128 out)).answered.reader ≡ 5
-  pub third : read_out ring (standing 544 7 2) (seven ++ drop 128 out) ≡ answering readingEmpty (standing 544 7 2) (seven ++ drop 128 out)
+  pub third : read_out ring (standing 544 7 2) (seven ++ drop 128 out) ≡ answering (Ok readingEmpty) (standing 544 7 2) (seven ++ drop 128 out)
 
 -- no premise on size
 abbrev pub AnySize : ℕ → Event → Type 0
@@ -74,7 +75,7 @@ module _ (given : ℕ → Turn) where
     pub line5 : (answers given buffer 256 five ≡ Done ∷ Done ∷ Done ∷ Done ∷ Done ∷ Done ∷ Done ∷ Dropped ∷ [])
         × Shows (lived given buffer 256 five) 256 288 544 (6 ∷ 7 ∷ []) (counted (2 + 1 + 5) 1 5)
     -- three reads by a reader attached before line 1
-    pub line6 : ((old : Reader) → attached (after_create 3 (buffer 256)) old ≡ record { answer = attachmentDone; reader = standing 0 0 0 })
+    pub line6 : ((old : Reader) → attached (after_create 3 (buffer 256)) old ≡ record { answer = Ok tt; reader = standing 0 0 0 })
         × ((out : List ℕ) → 128 ≤ length out → Reads (lived given buffer 256 five).ring out (numbered_bytes 6) (numbered_bytes 7))
     -- a swap to 512: nothing is lost, and both rings show generation 2
     pub line7 : Shows (swapped (lived given buffer 256 five) (buffer 512)) 512 0 256 (6 ∷ 7 ∷ []) (counted 8 1 5)

@@ -1,11 +1,12 @@
 -- Nothing but 10's reason has changed: the operations now and then ask the same tests (`rows`, `ten_among`), and where they part both give 10 at one place.
 use Prim.Native.Nat.{ℕ, zero, suc, ◌+◌}
-use mathlib.Core.Path.{◌≡◌, refl}
+use mathlib.Core.Path.{refl}
 use mathlib.Core.Logic.{inl, inr}
 use mathlib.Core.Bool.{Bool, true, false, not, cond}
 use mathlib.Core.List.{List, [], ◌∷◌, ◌++◌}
 use lib.ListN.{length, drop}
 use lib.Dec.{eqb, leb, ltb}
+use Rattle.std.specs.Prelude.{Ok, Err}
 use Rattle.table_rules.specs.Table.{first}
 use Rattle.table_rules.specs.declared.Damage.{Damage}
 use Rattle.table_rules.specs.declared.Refusal.{Refusal}
@@ -24,12 +25,10 @@ use Rattle.create_rules.specs.Create.{wrong_size}
 use Rattle.emit_rules.specs.Emit.{AfterEmit, refuse, writer_rows, too_large, too_far, event_of, ended, placed, emitted_on, emission}
 use Rattle.emit_rules.specs.declared.Label.{Label}
 use Rattle.inspect_rules.specs.Inspect.{surveyed, summary, damaged, damage_found, inspected_on, inspected}
-use Rattle.inspect_rules.specs.declared.Inspected.TheVariants.{Whole, Refused}
 use Rattle.reader_rules.specs.Reader.{wrong_reader, miscounted, taken_to}
 use Rattle.reader_rules.specs.Attach.{not_attached}
 use Rattle.reader_rules.specs.Read.{untouched, reading_place, handed_out, event_rows, next_at, next_opened, read_out}
 use Rattle.reader_rules.specs.declared.Reader.{Reader}
-use Rattle.reader_rules.specs.declared.Attachment.TheVariants.{Done}
 use Rattle.follow_rules.specs.Follow.{onward, follow_rows, followed_on, followed}
 use Rattle.swap_rules.specs.Swap.{refuse_swap, last_generation, count_differs, carried_over, swap_rows, exchange_on, exchange}
 use Rattle.recording_rules.specs.Recording.{recording_of, beyond_end, piece, not_recorded, put_in_front, recording_rows, recorded_on, recorded}
@@ -57,9 +56,9 @@ module _ {A : Type 0} (refused : Refusal → A) where
   ten_among [] test damage behind x = cond_both (ButForReason refused) test (ten damage) same
   ten_among ((other, r) ∷ front) test damage behind x = cond_both (ButForReason refused) other same (ten_among front test damage behind x)
 
-inspect_alike : (s : List ℕ) → ButForReason Refused (inspected s) (inspected_before s)
+inspect_alike : (s : List ℕ) → ButForReason Err (inspected s) (inspected_before s)
 unfolding inspected inspected_on inspected_before on_ring damage_found
-inspect_alike s = let p = page_of s in rows Refused (page_rows s) (ten_among Refused [] (damaged s p) (damage_found s p) [] (Whole (summary (surveyed s p))))
+inspect_alike s = let p = page_of s in rows Err (page_rows s) (ten_among Err [] (damaged s p) (damage_found s p) [] (Ok (summary (surveyed s p))))
 
 follow_alike : (s : List ℕ) (reader : Reader) → ButForReason (not_attached reader) (followed s reader) (followed_before s reader)
 unfolding followed followed_on follow_rows followed_before on_ring damage_found
@@ -67,7 +66,7 @@ follow_alike s reader =
     let p = page_of s in
     rows (not_attached reader) (page_rows s)
     (ten_among (not_attached reader) ((miscounted reader, refusal.Reader) ∷ (leb p.generation reader.generation, refusal.Generation) ∷ [])
-    (damaged s p) (damage_found s p) [] (record { answer = Done; reader = taken_to (onward s p reader.last) p.generation reader }))
+    (damaged s p) (damage_found s p) [] (record { answer = Ok tt; reader = taken_to (onward s p reader.last) p.generation reader }))
 
 swap_alike : (s t : List ℕ) (w : Writer) → ButForReason (refuse_swap s t w) (exchange s t w) (exchange_before s t w)
 unfolding exchange exchange_on swap_rows exchange_before on_ring damage_found

@@ -6,14 +6,15 @@ use mathlib.Core.Logic.{⊎_elim}
 use mathlib.Core.Bool.{true, false, true≢false}
 use mathlib.Core.List.{List}
 use lib.ListN.{length}
+use Rattle.std.specs.Prelude.{Result, Ok, Err}
+use Rattle.page_rules.specs.declared.Page.{Page}
+use Rattle.table_rules.specs.declared.Refusal.{Refusal}
 use Rattle.table_rules.specs.Table.{Stops}
 use Rattle.table_rules.proofs.Tests.{either, false_unless, le_or_lt}
 use Rattle.table_rules.specs.declared.Damage.{Damage}
 use Rattle.table_rules.specs.declared.Refusal.TheVariants.{Damaged}
 use Rattle.capacity_rules.proofs.Laws.{allowed_range}
 use Rattle.page_rules.specs.Page.{page_rows, opened}
-use Rattle.page_rules.specs.declared.Opened.{Opened}
-use Rattle.page_rules.specs.declared.Opened.TheVariants as opens
 use Rattle.page_rules.proofs.Opening.{refused_when}
 use Rattle.page_rules.proofs.Rows.{ring_refused}
 use Rattle.page_rules.proofs.Sound.{sound}
@@ -26,7 +27,6 @@ use Rattle.look_rules.proofs.Laws.{rest_length}
 use Rattle.writer_rules.specs.declared.Writer.{Writer}
 use Rattle.emit_rules.specs.Emit.{AfterEmit, refuse, emitted_on, emission}
 use Rattle.emit_rules.specs.declared.Label.{Label}
-use Rattle.emit_rules.specs.declared.Outcome.TheVariants.{Refused}
 use Rattle.promise.proofs.Places.{places}
 use Rattle.reasons.specs.Reasons.{Reasons}
 
@@ -73,7 +73,7 @@ module _ (cpu : ℕ) (bs : List ℕ) where
 -- ---- an emission's
 
 -- 1 to 6 bear no damage
-page_never : (s : List ℕ) (damage : Damage) → opened s ≡ opens.Refused (Damaged damage) → ⊥
+page_never : (s : List ℕ) (damage : Damage) → opened s ≡ Err (Damaged damage) → ⊥
 unfolding page_rows
 page_never s damage e = let row = refused_when s (Damaged damage) e in by row.0 row.1
   where
@@ -87,17 +87,17 @@ page_never s damage e = let row = refused_when s (Damaged damage) e in by row.0 
     by (suc (suc (suc (suc (suc (suc turn)))))) r = r.1.1.1.1.1.1
 
 emitting : (s : List ℕ) (w : Writer) (label : Label) (payload : List ℕ) (damage : Damage)
-    → (emission s w label payload).answer.outcome ≡ Refused (Damaged damage) → (2 ≤ damage.reason) × (damage.reason ≤ 6)
+    → (emission s w label payload).answer.outcome ≡ Err (Damaged damage) → (2 ≤ damage.reason) × (damage.reason ≤ 6)
 unfolding emission
 emitting s w label payload damage e = by (opened s) refl
   where
-    by : (o : Opened) → opened s ≡ o → (2 ≤ damage.reason) × (damage.reason ≤ 6)
-    by (opens.Refused r) is =
-        let told : Refused r ≡ Refused (Damaged damage) =
+    by : (o : Result Page Refusal) → opened s ≡ o → (2 ≤ damage.reason) × (damage.reason ≤ 6)
+    by (Err r) is =
+        let told : Err r ≡ Err (Damaged damage) =
         sym (ap (λ (a : AfterEmit). a.answer.outcome) (ring_refused (refuse s w) (λ p. emitted_on s p w label payload) s (sym is) refl)) ∙ e in
         let that : r ≡ Damaged damage = cc in
-        absurd (page_never s damage (is ∙ ap opens.Refused that))
-    by (opens.Page p) is =
+        absurd (page_never s damage (is ∙ ap Err that))
+    by (Ok p) is =
         let h = sound s p is in
         let there = ((places s p is damage).emit w label payload).0 e in
         let bs : List ℕ = rest s p damage.position in

@@ -1,5 +1,6 @@
 -- RULES 5.5: the operations that can give 10 as they were before it bore a reason, each written out again, and that no answer but the reason has changed.
-use Rattle.std.specs.Prelude.{ℕ, zero, suc, ◌+◌}
+use Rattle.std.specs.Prelude.{ℕ, zero, suc, ◌+◌, Result, Ok, Err}
+use Rattle.inspect_rules.specs.declared.Summary.{Summary}
 use mathlib.Core.{Path.◌≡◌, Logic.◌⊎◌, Bool.not, Bool.cond, List.List, List.[], List.◌∷◌}
 use lib.{ListN.length, ListN.drop, Dec.eqb, Dec.leb, Dec.ltb}
 use Rattle.table_rules.specs.{Table.first, declared.Damage.Damage, declared.Refusal.Refusal}
@@ -11,23 +12,23 @@ use Rattle.look_rules.specs.{Live.rest, Live.live}
 use Rattle.writer_rules.specs.{Writer.wrong_writer, declared.Writer.Writer}
 use Rattle.create_rules.specs.{Create.wrong_size}
 use Rattle.emit_rules.specs.{Emit.AfterEmit, Emit.refuse, Emit.writer_rows, Emit.too_large, Emit.dropped, Emit.too_far, Emit.event_of, Emit.ended, Emit.emission, declared.Label.Label}
-use Rattle.inspect_rules.specs.{Inspect.surveyed, Inspect.summary, Inspect.damaged, Inspect.inspected, declared.Inspected.Inspected}
-use Rattle.inspect_rules.specs.declared.Inspected.TheVariants.{Whole, Refused}
-use Rattle.reader_rules.specs.{Reader.wrong_reader, Reader.miscounted, Reader.taken_to, Attach.not_attached, declared.Reader.Reader, declared.Attached.Attached, declared.Attachment.TheVariants.Done}
+use Rattle.inspect_rules.specs.{Inspect.surveyed, Inspect.summary, Inspect.damaged, Inspect.inspected}
+use Rattle.reader_rules.specs.{Reader.wrong_reader, Reader.miscounted, Reader.taken_to, Attach.not_attached, declared.Reader.Reader}
 use Rattle.reader_rules.specs.{Read.AfterRead, Read.untouched, Read.reading_place, Read.at_end, Read.handed_out, Read.read_out}
 use Rattle.follow_rules.specs.{Follow.onward, Follow.followed}
 use Rattle.swap_rules.specs.{Swap.AfterSwap, Swap.refuse_swap, Swap.last_generation, Swap.count_differs, Swap.carried_over, Swap.exchange}
 use Rattle.recording_rules.specs.{Recording.AfterRecord, Recording.recording_of, Recording.beyond_end, Recording.piece, Recording.not_recorded, Recording.put_in_front, Recording.recorded}
+use Rattle.reader_rules.specs.declared.Answered.{Answered}
 
 -- what 10 bore then: a place, and nothing in the reason's stead
 abbrev pub place_alone : ℕ → Damage
 place_alone place = record { position = place; reason = 0 }
 
-unfoldable pub inspected_before : List ℕ → Inspected
+unfoldable pub inspected_before : List ℕ → Result Summary Refusal
 inspected_before s =
-    on_ring s Refused (λ p. first ((damaged s p, refusal.Damaged (place_alone (surveyed s p).stop)) ∷ []) Refused (Whole (summary (surveyed s p))))
+    on_ring s Err (λ p. first ((damaged s p, refusal.Damaged (place_alone (surveyed s p).stop)) ∷ []) Err (Ok (summary (surveyed s p))))
 
-unfoldable pub followed_before : List ℕ → Reader → Attached
+unfoldable pub followed_before : List ℕ → Reader → Answered (Unit {0})
 followed_before s reader =
     on_ring s (not_attached reader)
     (λ p.
@@ -36,7 +37,7 @@ followed_before s reader =
     ∷ (leb p.generation reader.generation, refusal.Generation)
     ∷ (damaged s p, refusal.Damaged (place_alone (surveyed s p).stop))
     ∷ [])
-    (not_attached reader) (record { answer = Done; reader = taken_to (onward s p reader.last) p.generation reader }))
+    (not_attached reader) (record { answer = Ok tt; reader = taken_to (onward s p reader.last) p.generation reader }))
 
 unfoldable pub exchange_before : List ℕ → List ℕ → Writer → AfterSwap
 exchange_before s t w =
@@ -98,7 +99,7 @@ ButForReason refused now before =
 pub record WhenTen : Type 0 where
   pub emit : (s : List ℕ) (w : Writer) (label : Label) (payload : List ℕ)
       → ButForReason (refuse s w) (emission s w label payload) (emission_before s w label payload)
-  pub inspect : (s : List ℕ) → ButForReason Refused (inspected s) (inspected_before s)
+  pub inspect : (s : List ℕ) → ButForReason Err (inspected s) (inspected_before s)
   pub read : (s : List ℕ) (reader : Reader) (out : List ℕ) → ButForReason (untouched reader out) (read_out s reader out) (read_before s reader out)
   pub follow : (s : List ℕ) (reader : Reader) → ButForReason (not_attached reader) (followed s reader) (followed_before s reader)
   pub swap : (s t : List ℕ) (w : Writer) → ButForReason (refuse_swap s t w) (exchange s t w) (exchange_before s t w)

@@ -1,11 +1,11 @@
 -- RULES 3.6, 6.5: which events have a reason, which reason that is, and which of them an emission gives.
-use Rattle.std.specs.Prelude.{ℕ, ◌≤◌}
+use Rattle.std.specs.Prelude.{ℕ, ◌≤◌, Err}
 use mathlib.Core.{Path.◌≡◌, Logic.◌↔◌, Bool.true, Bool.false, List.List}
 use lib.{ListN.length}
 use Rattle.table_rules.specs.{declared.Damage.Damage, declared.Refusal.TheVariants.Damaged}
 use Rattle.event_rules.specs.{Event.sequence, Event.well_formed, Event.reason_of, Run.passable, Run.reason_after}
 use Rattle.writer_rules.specs.{declared.Writer.Writer}
-use Rattle.emit_rules.specs.{Emit.emission, declared.Label.Label, declared.Outcome.TheVariants.Refused}
+use Rattle.emit_rules.specs.{Emit.emission, declared.Label.Label}
 
 pub record Reasons : Type 0 where
   -- by its form: from 1 to 6 exactly if it isn't well formed
@@ -19,4 +19,4 @@ pub record Reasons : Type 0 where
   pub form_first : (cpu last : ℕ) (bs : List ℕ) → well_formed cpu bs ≡ false → reason_after cpu last bs ≡ reason_of cpu (length bs) bs
   -- never 1, never 7
   pub emit : (s : List ℕ) (w : Writer) (label : Label) (payload : List ℕ) (damage : Damage)
-      → (emission s w label payload).answer.outcome ≡ Refused (Damaged damage) → (2 ≤ damage.reason) × (damage.reason ≤ 6)
+      → (emission s w label payload).answer.outcome ≡ Err (Damaged damage) → (2 ≤ damage.reason) × (damage.reason ≤ 6)

@@ -2,16 +2,15 @@
 #![tactic(auto)]
 
 use program::reply::give;
-use program::room::{recording_room, ring_room};
+use program::room::{RECORDING_ROOM, RING_ROOM};
 use record_file::record_file;
 use status::STDIN_FILENO;
+use text::room::room;
 
 fn main() {
-    let mut input = ring_room();
+    let mut input = room::<RING_ROOM>();
     let n = io::read_full(STDIN_FILENO, &mut input);
-    let mut out = recording_room();
+    let mut out = room::<RECORDING_ROOM>();
     let replied = record_file(&input[..n], &mut out);
-    let count = replied.count;
-    let kind = replied.kind;
-    give(kind, &out[..count]);
+    give(replied.kind, &out[..replied.count]);
 }

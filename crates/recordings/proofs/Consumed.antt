@@ -1,11 +1,9 @@
 -- What the consumer writes into its page changes neither what the ring's page says, nor its events, nor its recording: other bytes decide.
 use Prim.Native.Nat.{ℕ}
-use native.Mathlib.Omega.{arith}
 use mathlib.Core.Path.{◌≡◌, sym, ap, ◌∙◌}
 use mathlib.Core.List.{List}
 use Rattle.page_rules.specs.declared.Page.{Page}
 use Rattle.page_rules.proofs.Facts.{Sound}
-use Rattle.page_rules.proofs.Sound.{sound_length}
 use Rattle.event_rules.specs.Run.{sound_run}
 use Rattle.look_rules.proofs.Laws.{live_same}
 use Rattle.inspect_rules.specs.Inspect.{walked, survey_of, surveyed}

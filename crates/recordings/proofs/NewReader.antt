@@ -19,7 +19,6 @@ use Rattle.reader_rules.specs.Reader.{reader_with}
 use Rattle.reader_rules.specs.Attach.{attached}
 use Rattle.reader_rules.specs.Read.{read_out}
 use Rattle.reader_rules.specs.declared.Reader.{Reader}
-use Rattle.reader_rules.specs.declared.Attached.{Attached}
 use Rattle.reader_rules.proofs.Attaching.{attach_done}
 use Rattle.reader_rules.proofs.Life.{says_with, attached_says}
 use Rattle.format_rules.specs.Format.{opening, closing, recording}
@@ -28,6 +27,7 @@ use Rattle.comparison.specs.Emptying.{Empties}
 use Rattle.comparison.proofs.UntilEmpty.{until_empty}
 use Rattle.comparison.proofs.Ends.{one_end}
 use Rattle.recordings.specs.Handed.{file_of, Handed, NewReader}
+use Rattle.reader_rules.specs.declared.Answered.{Answered}
 
 -- a recording ends alike where its counts are the same
 same_counts : (bytes : List ℕ) {handed missed count rest : ℕ} → handed ≡ count → missed ≡ rest → bytes ++ closing handed missed ≡ bytes ++ closing count rest
@@ -65,10 +65,10 @@ module _ (s : List ℕ) (sound : Sound s (page_of s)) (reaches : (surveyed s (pa
   handed : (any : Reader) → Handed s any
   handed any =
       let attaches = attach_done s any p sound in
-      let here : first ≡ (attached s any).reader = sym (ap (λ (a : Attached). a.reader) attaches ∙ says_with (attached_says p)) in
+      let here : first ≡ (attached s any).reader = sym (ap (λ (a : Answered (Unit {0})). a.reader) attaches ∙ says_with (attached_says p)) in
       let all : Empties read_out s (attached s any).reader events end = subst (λ (r : Reader). Empties read_out s r events end) here until in
       record {
-        attaches = ap (λ (a : Attached). a.answer) attaches;
+        attaches = ap (λ (a : Answered (Unit {0})). a.answer) attaches;
         events = events;
         end = end;
         empties = all;

@@ -7,13 +7,13 @@ use mathlib.Core.Logic.{◌≢◌}
 use mathlib.Core.List.{List, [], ◌∷◌, ◌++◌}
 use lib.ListN.{length, take, drop, length-take, length-drop}
 use lib.Seq.{take-length, drop-drop, take-add, take-append_seam}
+use Rattle.std.specs.Prelude.{Ok, Err}
 use Rattle.table_rules.specs.declared.Refusal.{Refusal}
 use Rattle.page_rules.specs.Page.{page_of}
 use Rattle.page_rules.proofs.Facts.{Sound}
 use Rattle.inspect_rules.specs.Inspect.{surveyed}
 use Rattle.inspect_rules.proofs.Answers.{whole_inspected}
 use Rattle.recording_rules.specs.Recording.{AfterRecord, recording_of, piece, put_in_front}
-use Rattle.recording_rules.specs.declared.Recorded.TheVariants.{Placed, Refused}
 use Rattle.recording_rules.proofs.Cases.{recorded_on_lem, places}
 use Rattle.promise.specs.Bytes.{consumed}
 use Rattle.recordings.specs.Pieces.{Lending, recorded_now, placed_by, put_by, pieces, AllPlaced, lent_bytes, OneRing}
@@ -31,7 +31,7 @@ take_taken zero l = refl
 take_taken (suc n) [] = refl
 take_taken {A} (suc n) (x ∷ l) = ap (λ (r : List A). x ∷ r) (take_taken n l)
 
-never : (n : ℕ) (r : Refusal) → Placed n ≢ Refused r
+never : (n : ℕ) (r : Refusal) → Ok n ≢ Err r
 never n r e = let z : ◌≡◌ {A = ℕ} 0 1 = cc in omega arith
 
 module _ (s : List ℕ) (sound : Sound s (page_of s)) (reaches : (surveyed s (page_of s)).stop ≡ (page_of s).write_pos) where

@@ -6,6 +6,7 @@ use mathlib.Core.Bool.{Bool, true, false, not, ◌&&◌, cond, true≢false}
 use mathlib.Core.List.{List, [], ◌∷◌, ◌++◌}
 use lib.ListN.{length}
 use lib.Dec.{eqb, ltb}
+use Rattle.std.specs.Prelude.{Option, Result, Ok, Err}
 use Rattle.table_rules.specs.Table.{first}
 use Rattle.table_rules.specs.Refusals.{paper_number, paper_name}
 use Rattle.table_rules.specs.declared.Refusal.{Refusal}
@@ -22,8 +23,6 @@ use Rattle.event_rules.specs.Walk as walks
 use Rattle.look_rules.specs.Live.{rest}
 use Rattle.writer_rules.specs.declared.Writer.{Writer}
 use Rattle.create_rules.specs.Create.{wrong_size, create_rows, created, after_create}
-use Rattle.create_rules.specs.declared.Created.{Created}
-use Rattle.create_rules.specs.declared.Created.TheVariants as creates
 use Rattle.emit_rules.specs.Emit as emit
 use Rattle.emit_rules.specs.declared.Label.{Label}
 use Rattle.emit_rules.specs.declared.Outcome.{Outcome}
@@ -31,14 +30,10 @@ use Rattle.emit_rules.specs.declared.Outcome.TheVariants as emits
 use Rattle.inspect_rules.specs.Inspect.{surveyed, summary, damage_found, inspection_row, inspected_on, inspected}
 use Rattle.inspect_rules.specs.declared.Survey.{Survey}
 use Rattle.inspect_rules.specs.declared.Summary.{Summary}
-use Rattle.inspect_rules.specs.declared.Inspected.{Inspected}
-use Rattle.inspect_rules.specs.declared.Inspected.TheVariants as inspects
 use Rattle.reader_rules.specs.Attach.{not_attached, attached}
 use Rattle.reader_rules.specs.Reader.{wrong_reader}
 use Rattle.reader_rules.specs.Read.{AfterRead, untouched, reading_place, ending, event_rows, Leaves, next_at, next_opened, reading, read_out}
 use Rattle.reader_rules.specs.declared.Reader.{Reader}
-use Rattle.reader_rules.specs.declared.Attached.{Attached}
-use Rattle.reader_rules.specs.declared.Attachment.{Attachment}
 use Rattle.reader_rules.specs.declared.Reading.{Reading}
 use Rattle.reader_rules.specs.declared.Reading.TheVariants as reads
 use Rattle.slip_rules.specs.Copy.{AfterCopy, nothing_copied, copy_ending, copying, copy_out}
@@ -46,91 +41,88 @@ use Rattle.slip_rules.specs.Confirm.{not_confirmed, wrong_slip, gone, confirm_op
 use Rattle.slip_rules.specs.declared.Copying.{Copying}
 use Rattle.slip_rules.specs.declared.Copying.TheVariants as copies
 use Rattle.slip_rules.specs.declared.Confirming.{Confirming}
-use Rattle.slip_rules.specs.declared.Confirmed.{Confirmed}
 use Rattle.follow_rules.specs.Follow.{follow_rows, followed_on, followed}
 use Rattle.swap_rules.specs.Swap.{AfterSwap, refuse_swap, exchanging, swap_rows, carried_over, exchange_on, exchange}
 use Rattle.swap_rules.specs.declared.SwapOutcome.{SwapOutcome}
 use Rattle.swap_rules.specs.declared.SwapOutcome.TheVariants as swaps
 use Rattle.recording_rules.specs.Recording.{AfterRecord, not_recorded, beyond_end, recording_rows, recorded_on, recorded}
-use Rattle.recording_rules.specs.declared.Recorded.{Recorded}
 use Rattle.verification_rules.specs.Verify.{verified_on, verified}
-use Rattle.verification_rules.specs.declared.Verified.{Verified}
-use Rattle.verification_rules.specs.declared.Verified.TheVariants as verifies
-use Rattle.console_rules.specs.Console.{call_number, created_number, inspected_number, emitted_number, is_refused, record_of, record_after}
+use Rattle.console_rules.specs.Console.{call_number, answered_number, emitted_number, is_refused, record_of, record_after}
 use Rattle.console_rules.specs.Console.{Called, refused_call, record_rows, emit_call}
 use Rattle.console_rules.proofs.Header.{told_by_lem}
 use Rattle.refusals.specs.Demand1.{Asked, no_damage, walk_table, walk_damage, emit_table, inspect_table, Demand1}
 use Rattle.refusals.proofs.Rows.{Outcomes, refused, Fits, Other, refuses, says, past, either, ask, asks, asked}
+use Rattle.reader_rules.specs.declared.Answered.{Answered}
 
 -- ---- what C is told too: for any way to tell an answer by which no other one is a refusal's
 
-module _ {A : Type 0} (say : Created → A) (done : (r : Refusal) → say creates.Done ≡ say (creates.Refused r) → ⊥) (cpu : ℕ) (s : List ℕ) where
-  abbrev creations : Outcomes (Created × List ℕ) A
-  creations = record { answer = λ x. say x.0; refuse = λ r. (creates.Refused r, s); as_came = λ x. x.1 ≡ s; keep = λ r. refl }
+module _ {A : Type 0} (say : Result (Unit {0}) Refusal → A) (done : (r : Refusal) → say (Ok tt) ≡ say (Err r) → ⊥) (cpu : ℕ) (s : List ℕ) where
+  abbrev creations : Outcomes ((Result (Unit {0}) Refusal) × List ℕ) A
+  creations = record { answer = λ x. say x.0; refuse = λ r. (Err r, s); as_came = λ x. x.1 ≡ s; keep = λ r. refl }
 
-  create_fits : Fits creations ((wrong_size s, say (creates.Refused refusal.Size)) ∷ (true, say creates.Done) ∷ []) (created s, after_create cpu s)
+  create_fits : Fits creations ((wrong_size s, say (Err refusal.Size)) ∷ (true, say (Ok tt)) ∷ []) (created s, after_create cpu s)
   unfolding created after_create create_rows first
   create_fits = by (wrong_size s)
     where
       by : (b : Bool)
-          → Fits creations ((b, say (creates.Refused refusal.Size)) ∷ (true, say creates.Done) ∷ [])
-          (cond b (creates.Refused refusal.Size) creates.Done, cond b s (blank cpu (length s - 8192) 1))
+          → Fits creations ((b, say (Err refusal.Size)) ∷ (true, say (Ok tt)) ∷ [])
+          (cond b (Err refusal.Size) (Ok tt), cond b s (blank cpu (length s - 8192) 1))
       by true = refuses creations refusal.Size
       by false = past creations (says creations refl done)
 
-  create_asked : Asked (λ r. say (creates.Refused r)) no_damage (λ refusal. (wrong_size s, refusal 16) ∷ (true, say creates.Done) ∷ []) (say (created s))
+  create_asked : Asked (λ r. say (Err r)) no_damage (λ refusal. (wrong_size s, refusal 16) ∷ (true, say (Ok tt)) ∷ []) (say (created s))
       (after_create cpu s ≡ s)
   create_asked = asked creations create_fits
 
-module _ {A : Type 0} (say : Inspected → A) (whole : (v : Summary) (r : Refusal) → say (inspects.Whole v) ≡ say (inspects.Refused r) → ⊥) (s : List ℕ) where
-  abbrev inspections : Outcomes Inspected A
-  inspections = record { answer = say; refuse = inspects.Refused; as_came = λ x. Unit {0}; keep = λ r. tt }
+module _ {A : Type 0} (say : Result Summary Refusal → A) (whole : (v : Summary) (r : Refusal) → say (Ok v) ≡ say (Err r) → ⊥) (s : List ℕ) where
+  abbrev inspections : Outcomes (Result Summary Refusal) A
+  inspections = record { answer = say; refuse = Err; as_came = λ x. Unit {0}; keep = λ r. tt }
 
   abbrev v : Survey
   v = surveyed s (page_of s)
 
-  inspect_fits : Fits inspections (inspect_table s (say (inspects.Whole (summary v))) (λ n. say (inspects.Refused (paper_name (damage_found s (page_of s)) n)))) (inspected s)
+  inspect_fits : Fits inspections (inspect_table s (say (Ok (summary v))) (λ n. say (Err (paper_name (damage_found s (page_of s)) n)))) (inspected s)
   unfolding on_ring inspected inspected_on page_rows
   inspect_fits = asks inspections (page_rows s) (asks inspections (inspection_row s (page_of s) ∷ []) (says inspections refl (whole (summary v))))
 
-  inspect_asked : Asked (λ r. say (inspects.Refused r)) (damage_found s (page_of s)) (inspect_table s (say (inspects.Whole (summary v)))) (say (inspected s)) (Unit {0})
+  inspect_asked : Asked (λ r. say (Err r)) (damage_found s (page_of s)) (inspect_table s (say (Ok (summary v)))) (say (inspected s)) (Unit {0})
   inspect_asked = asked inspections inspect_fits
 
-module _ {A : Type 0} (say : Outcome → A) (other : (e : Outcome) → is_refused e ≡ false → (r : Refusal) → say e ≡ say (emits.Refused r) → ⊥)
+module _ {A : Type 0} (say : Result Outcome Refusal → A) (other : (e : Result Outcome Refusal) → is_refused e ≡ false → (r : Refusal) → say e ≡ say (Err r) → ⊥)
     (s : List ℕ) (w : Writer) (as_came : emit.AfterEmit → Type 0) (keep : (r : Refusal) → as_came (emit.refuse s w r)) where
   abbrev emissions : Outcomes emit.AfterEmit A
   emissions = record { answer = λ x. say x.answer.outcome; refuse = emit.refuse s w; as_came = as_came; keep = keep }
 
-  accepted : (b : Bool) → say (emit.accepting b) ≡ cond b (say emits.Wake) (say emits.Done)
+  accepted : (b : Bool) → say (emit.accepting b) ≡ cond b (say (Ok emits.Wake)) (say (Ok emits.Done))
   accepted true = refl
   accepted false = refl
 
   ended_fits : (p : Page) (event : List ℕ) (end : Walk)
       → Fits emissions
-      (walk_table w end (λ n. say (emits.Refused (paper_name (walk_damage end) n))) ++ ((wakes (need_wake s), say emits.Wake) ∷ (true, say emits.Done) ∷ []))
+      (walk_table w end (λ n. say (Err (paper_name (walk_damage end) n))) ++ ((wakes (need_wake s), say (Ok emits.Wake)) ∷ (true, say (Ok emits.Done)) ∷ []))
       (emit.ended s p w event end)
   unfolding emit.acceptance first
   ended_fits p event (walks.Damaged damage) = refuses emissions (refusal.Damaged damage)
   ended_fits p event (walks.Room tail passed) =
       asks emissions ((emit.disagrees w passed, refusal.Disagree) ∷ [])
-      (either emissions (wakes (need_wake s)) (accepted (wakes (need_wake s))) (other emits.Wake refl) (other emits.Done refl))
+      (either emissions (wakes (need_wake s)) (accepted (wakes (need_wake s))) (other (Ok emits.Wake) refl) (other (Ok emits.Done) refl))
 
   emit_fits : (label : Label) (payload : List ℕ)
       → Fits emissions
-      (emit_table s w (32 + length payload) (say emits.Dropped) (say emits.Wake) (say emits.Done)
-      (λ n. say (emits.Refused (paper_name (walk_damage (emit.walk_end s (page_of s) (32 + length payload))) n))))
+      (emit_table s w (32 + length payload) (say (Ok emits.Dropped)) (say (Ok emits.Wake)) (say (Ok emits.Done))
+      (λ n. say (Err (paper_name (walk_damage (emit.walk_end s (page_of s) (32 + length payload))) n))))
       (emit.emission s w label payload)
   unfolding on_ring emit.emission emit.emitted_on emit.writer_rows emit.dropped emit.placed page_rows
   emit_fits label payload =
       asks emissions (page_rows s)
       (asks emissions (emit.writer_rows w)
-      (ask emissions (emit.too_large (page_of s) (32 + length payload)) refl (other emits.Dropped refl)
+      (ask emissions (emit.too_large (page_of s) (32 + length payload)) refl (other (Ok emits.Dropped) refl)
       (asks emissions ((emit.too_far (page_of s) (32 + length payload), refusal.Far) ∷ [])
       (ended_fits (page_of s) (emit.event_of (page_of s) w label payload) (emit.walk_end s (page_of s) (32 + length payload))))))
 
   emit_asked : (label : Label) (payload : List ℕ)
-      → Asked (λ r. say (emits.Refused r)) (walk_damage (emit.walk_end s (page_of s) (32 + length payload)))
-      (emit_table s w (32 + length payload) (say emits.Dropped) (say emits.Wake) (say emits.Done)) (say (emit.emission s w label payload).answer.outcome)
+      → Asked (λ r. say (Err r)) (walk_damage (emit.walk_end s (page_of s) (32 + length payload)))
+      (emit_table s w (32 + length payload) (say (Ok emits.Dropped)) (say (Ok emits.Wake)) (say (Ok emits.Done))) (say (emit.emission s w label payload).answer.outcome)
       (as_came (emit.emission s w label payload))
   emit_asked label payload = asked emissions (emit_fits label payload)
 
@@ -140,11 +132,11 @@ module _ {A : Type 0} (say : Outcome → A) (other : (e : Outcome) → is_refuse
 free : (n : ℕ) → n < 100 → (paper_number (paper_name no_damage n) ≡ n → ⊥) → (r : Refusal) → n ≡ call_number r → ⊥
 free n below differ r = told_by_lem (λ k. n ≡ k → ⊥) r (λ k e. omega arith) (λ other e. differ (is_numbered no_damage r n e))
 
-emitted_free : (e : Outcome) → is_refused e ≡ false → (r : Refusal) → emitted_number e ≡ call_number r → ⊥
-emitted_free emits.Done is = free 0 (omega arith) (λ e. omega arith)
-emitted_free emits.Wake is = free 21 (omega arith) (λ e. omega arith)
-emitted_free emits.Dropped is = free 20 (omega arith) (λ e. omega arith)
-emitted_free (emits.Refused r) is = absurd (true≢false is)
+emitted_free : (e : Result Outcome Refusal) → is_refused e ≡ false → (r : Refusal) → emitted_number e ≡ call_number r → ⊥
+emitted_free (Ok emits.Done) is = free 0 (omega arith) (λ e. omega arith)
+emitted_free (Ok emits.Wake) is = free 21 (omega arith) (λ e. omega arith)
+emitted_free (Ok emits.Dropped) is = free 20 (omega arith) (λ e. omega arith)
+emitted_free (Err r) is = absurd (true≢false is)
 
 abbrev calls : (s bytes : List ℕ) → Outcomes Called ℕ
 calls s bytes =
@@ -152,7 +144,7 @@ calls s bytes =
 
 -- ---- the readers
 
-abbrev attachments : Reader → Outcomes Attached Attachment
+abbrev attachments : Reader → Outcomes (Answered (Unit {0})) (Result (Unit {0}) Refusal)
 attachments reader = record { answer = λ x. x.answer; refuse = not_attached reader; as_came = λ x. x.reader ≡ reader; keep = λ r. refl }
 
 -- what reading and copying ask for the next event, whatever the call leaves of its end and of an event
@@ -200,10 +192,10 @@ module _ (s : List ℕ) (reader : Reader) (out : List ℕ) where
 
 -- ---- every operation
 
-emitted_other : (e : Outcome) → is_refused e ≡ false → (r : Refusal) → e ≡ emits.Refused r → ⊥
+emitted_other : (e : Result Outcome Refusal) → is_refused e ≡ false → (r : Refusal) → e ≡ Err r → ⊥
 emitted_other e is r told = true≢false (sym (ap is_refused told) ∙ is)
 
-exchanged : (b : Bool) → exchanging b ≡ cond b swaps.Wake swaps.Done
+exchanged : (b : Bool) → exchanging b ≡ cond b (Ok swaps.Wake) (Ok swaps.Done)
 exchanged true = refl
 exchanged false = refl
 
@@ -221,7 +213,7 @@ demand1 =
           (asks (attachments reader) (page_rows s) (says (attachments reader) refl (λ r e. let z : ◌≡◌ {A = ℕ} 0 1 = cc in omega arith)));
       read =
           λ s reader out.
-          let o : Outcomes AfterRead Reading =
+          let o : Outcomes AfterRead (Result Reading Refusal) =
           record {
             answer = λ x. x.answered.answer;
             refuse = untouched reader out;
@@ -231,12 +223,12 @@ demand1 =
           let leaves = reading (page_of s) reader out in
           asked o
           (asks o (page_rows s)
-          (next_fits s reader out o leaves.ended leaves.event reads.Empty reads.Moved (λ place. refl)
+          (next_fits s reader out o leaves.ended leaves.event (Ok reads.Empty) (Ok reads.Moved) (λ place. refl)
           (λ r e. let z : ◌≡◌ {A = ℕ} 0 1 = cc in omega arith) (λ r e. let z : ◌≡◌ {A = ℕ} 0 1 = cc in omega arith)
           (λ r e. let z : ◌≡◌ {A = ℕ} 0 1 = cc in omega arith)));
       copy =
           λ s reader out.
-          let o : Outcomes AfterCopy Copying =
+          let o : Outcomes AfterCopy (Result Copying Refusal) =
           record {
             answer = λ x. x.copied.answer;
             refuse = nothing_copied reader out;
@@ -246,12 +238,12 @@ demand1 =
           let leaves = copying (page_of s) reader out in
           asked o
           (asks o (page_rows s)
-          (next_fits s reader out o leaves.ended leaves.event copies.Empty copies.Moved (λ place. refl)
+          (next_fits s reader out o leaves.ended leaves.event (Ok copies.Empty) (Ok copies.Moved) (λ place. refl)
           (λ r e. let z : ◌≡◌ {A = ℕ} 0 1 = cc in omega arith) (λ r e. let z : ◌≡◌ {A = ℕ} 0 1 = cc in omega arith)
           (λ r e. let z : ◌≡◌ {A = ℕ} 0 1 = cc in omega arith)));
       confirm =
           λ s reader slip.
-          let o : Outcomes Confirmed Confirming =
+          let o : Outcomes (Answered Confirming) (Result Confirming Refusal) =
           record { answer = λ x. x.answer; refuse = not_confirmed reader; as_came = λ x. x.reader ≡ reader; keep = λ r. refl } in
           let p = page_of s in
           asked o
@@ -267,7 +259,7 @@ demand1 =
           (says (attachments reader) refl (λ r e. let z : ◌≡◌ {A = ℕ} 0 1 = cc in omega arith))));
       swap =
           λ s t w.
-          let o : Outcomes AfterSwap SwapOutcome =
+          let o : Outcomes AfterSwap (Result SwapOutcome Refusal) =
           record {
             answer = λ x. x.answer.outcome;
             refuse = refuse_swap s t w;
@@ -281,23 +273,23 @@ demand1 =
           (λ r e. let z : ◌≡◌ {A = ℕ} 0 1 = cc in omega arith))));
       recording =
           λ s placed out.
-          let o : Outcomes AfterRecord Recorded =
+          let o : Outcomes AfterRecord (Result ℕ Refusal) =
           record { answer = λ x. x.answer; refuse = not_recorded out; as_came = λ x. x.out ≡ out; keep = λ r. refl } in
           asked o
           (asks o (page_rows s)
           (asks o (recording_rows s (page_of s) placed) (says o refl (λ r e. let z : ◌≡◌ {A = ℕ} 0 1 = cc in omega arith))));
       verify =
           λ s file.
-          let o : Outcomes Verified Verified = record { answer = λ x. x; refuse = verifies.Refused; as_came = λ x. Unit {0}; keep = λ r. tt } in
+          let o : Outcomes (Result (Option ℕ) Refusal) (Result (Option ℕ) Refusal) = record { answer = λ x. x; refuse = Err; as_came = λ x. Unit {0}; keep = λ r. tt } in
           asked o
           (asks o (page_rows s)
           (asks o (inspection_row s (page_of s) ∷ []) (says o refl (λ r e. let z : ◌≡◌ {A = ℕ} 0 1 = cc in omega arith))));
-      create_call = create_asked created_number (free 0 (omega arith) (λ e. omega arith));
+      create_call = create_asked answered_number (free 0 (omega arith) (λ e. omega arith));
       emit_call_lem =
           λ s bytes timestamp type class payload.
           asked (calls s bytes)
           (asks (calls s bytes) (record_rows bytes)
           (emit_fits emitted_number emitted_free s (record_of bytes) (λ x. (x.ring ≡ s) × (record_after bytes x.answer ≡ bytes)) (λ r. (refl, refl))
           (record { timestamp = timestamp; event_type = type; origin_class = class }) payload));
-      inspect_call = inspect_asked inspected_number (λ v. free 0 (omega arith) (λ e. omega arith));
+      inspect_call = inspect_asked answered_number (λ v. free 0 (omega arith) (λ e. omega arith));
     }

@@ -2,26 +2,28 @@
 #![tactic(auto)]
 
 mod play;
-mod room;
 
-use replay_state::room::buffer_room;
+use replay_state::room::BUFFER_ROOM;
 use replay_state::say::words;
-use room::script_room;
-use status::{Ended, STATUS_FILENO, digit};
+use status::{Ended, STATUS_FILENO, STDIN_FILENO, digit};
+use text::room::room;
+
+// One byte more than a script may have.
+const SCRIPT_ROOM: usize = 1048577;
 
 fn main() {
-    let mut script = script_room();
-    let n = io::read_full(0, &mut script);
-    if n > 1048576 {
+    let mut script = room::<SCRIPT_ROOM>();
+    let n = io::read_full(STDIN_FILENO, &mut script);
+    if n == SCRIPT_ROOM {
         words(b"too long\n");
         io::write_all(STATUS_FILENO, &digit(Ended::Other));
         return;
     }
-    let mut first = buffer_room();
-    let mut second = buffer_room();
-    let mut third = buffer_room();
-    let mut fourth = buffer_room();
-    let mut out = buffer_room();
+    let mut first = room::<BUFFER_ROOM>();
+    let mut second = room::<BUFFER_ROOM>();
+    let mut third = room::<BUFFER_ROOM>();
+    let mut fourth = room::<BUFFER_ROOM>();
+    let mut out = room::<BUFFER_ROOM>();
     play::play(
         &script[..n],
         &mut first,

@@ -1,7 +1,6 @@
 // The lines of a script in order.
 use replay_line::{begun, step};
 use replay_state::say;
-use script::field::seek;
 
 // Bytes behind the last newline are no line: they may have been cut off within a field.
 pub fn play(
@@ -13,15 +12,11 @@ pub fn play(
     out: &mut [u8],
 ) {
     let mut state = begun();
-    let mut at = 0;
-    while at < script.len() {
-        let end = seek(script, at, 10);
-        if end == script.len() {
+    for whole in script.split_inclusive(|byte| *byte == b'\n') {
+        let Some(line) = whole.strip_suffix(b"\n") else {
             say::words(b"unknown\n");
             return;
-        }
-        let line = &script[at..end];
-        at = end + 1;
+        };
         state = step(line, state, first, second, third, fourth, out);
     }
 }

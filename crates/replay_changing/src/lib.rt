@@ -1,4 +1,5 @@
-// A line that may change the bytes of the buffer that it names, taken to its function by its word.
+// A line that may change the bytes of the buffer that it names, taken to its function by its word: by a match here and in the crates beside it, since each
+// arm hands on what its function asks, and promises what all promise.
 #![tactic(auto)]
 
 ghost use Rattle.std.specs.Prelude.{◌≡◌};

@@ -30,11 +30,9 @@ pub fn begun() -> Playing
     ensures slips { result.records.slips ≡ replicate 4 (record { position = 0; size = 0; sequence = 0; tail_seen = 0 }) }
     ensures listener { result.listener ≡ fresh_listener }
 {
-    let records = fresh();
-    let listener = listener::fresh();
     Playing {
-        records: records,
-        listener: listener,
+        records: fresh(),
+        listener: listener::fresh(),
     }
 }
 
@@ -49,7 +47,6 @@ fn on_records(
     out: &mut [u8],
 ) -> State {
     match found {
-        Command::Unknown => unknown(state),
         Command::Writer => records::set_writer(line, state),
         Command::Reader => records::set_reader(line, state),
         Command::Slip => replay_slips::set_slip(line, state),
@@ -77,15 +74,18 @@ pub fn step(
 {
     let records = state.records;
     let listener = state.listener;
-    let found = command_of(line);
-    match found {
-        Command::Serial(word) => Playing {
-            records: records,
+    match command_of(line) {
+        None => Playing {
+            records: unknown(records),
+            listener,
+        },
+        Some(Command::Serial(word)) => Playing {
+            records,
             listener: on_listener(word, line, listener),
         },
-        _ => Playing {
+        Some(found) => Playing {
             records: on_records(found, line, records, first, second, third, fourth, out),
-            listener: listener,
+            listener,
         },
     }
 }

@@ -39,6 +39,7 @@ fn on_buffer(
     on_ring(command, line, state, &mut buffer[0..length], out)
 }
 
+// The buffers come one by one here and above: of an array of slices the borrow checker lends no two at once, as a line on two buffers wants them.
 pub fn on_one(
     command: Command,
     line: &[u8],
@@ -52,10 +53,10 @@ pub fn on_one(
     ensures { result.lengths ≡ state.lengths }
 {
     match number_to(field(line, 1), 3) {
-        0 => on_buffer(command, line, state, 0, first, out),
-        1 => on_buffer(command, line, state, 1, second, out),
-        2 => on_buffer(command, line, state, 2, third, out),
-        3 => on_buffer(command, line, state, 3, fourth, out),
+        Some(0) => on_buffer(command, line, state, 0, first, out),
+        Some(1) => on_buffer(command, line, state, 1, second, out),
+        Some(2) => on_buffer(command, line, state, 2, third, out),
+        Some(3) => on_buffer(command, line, state, 3, fourth, out),
         _ => unknown(state),
     }
 }
@@ -72,10 +73,10 @@ pub fn on_size(
     ensures { (result.writers ≡ state.writers) × (result.readers ≡ state.readers) × (result.slips ≡ state.slips) }
 {
     match number_to(field(line, 1), 3) {
-        0 => memory::size(line, state, 0, first),
-        1 => memory::size(line, state, 1, second),
-        2 => memory::size(line, state, 2, third),
-        3 => memory::size(line, state, 3, fourth),
+        Some(0) => memory::size(line, state, 0, first),
+        Some(1) => memory::size(line, state, 1, second),
+        Some(2) => memory::size(line, state, 2, third),
+        Some(3) => memory::size(line, state, 3, fourth),
         _ => unknown(state),
     }
 }

@@ -3,93 +3,95 @@
 
 ghost use Rattle.std.specs.Prelude.{◌≡◌, ◌≤◌};
 
-use inspect_rules::Inspected;
-use reader_rules::{Attached, Attachment, Reading};
+use reader_rules::{Answered, Reading};
 use replay_state::say;
-use replay_state::state::{State, unknown, with_reader};
+use replay_state::state::{State, unknown, with};
 use script::field::field;
 use script::number::number_to;
+use table_rules::Refusal;
 
 pub fn inspect(state: State, ring: &[u8]) -> State
     ensures { result ≡ state }
 {
     match inspect::inspect(ring) {
-        Inspected::Whole(summary) => {
+        Ok(summary) => {
             say::number(b"kept ", summary.count);
             say::number(b" first ", summary.first);
             say::number(b" last ", summary.last);
         }
-        Inspected::Refused(refused) => say::refusal(refused),
+        Err(refused) => say::refusal(refused),
     }
     say::words(b"\n");
     state
 }
 
 // What attaching and following answer.
-fn attachment(state: State, r: usize, attached: Attached) -> State
+fn attachment(state: State, r: usize, attached: Answered<()>) -> State
     requires { r ≤ 3 }
     ensures { (result.lengths ≡ state.lengths) × (result.writers ≡ state.writers) × (result.slips ≡ state.slips) }
 {
-    let answer = attached.answer;
-    match answer {
-        Attachment::Done => say::words(b"done"),
-        Attachment::Refused(refused) => say::refusal(refused),
+    match attached.answer {
+        Ok(()) => say::words(b"done"),
+        Err(refused) => say::refusal(refused),
     }
     say::reader(attached.reader);
-    with_reader(state, r, attached.reader)
+    State {
+        readers: with(state.readers, r, attached.reader),
+        ..state
+    }
 }
 
 pub fn attach(line: &[u8], state: State, ring: &[u8]) -> State
     ensures { (result.lengths ≡ state.lengths) × (result.writers ≡ state.writers) × (result.slips ≡ state.slips) }
 {
-    let r = number_to(field(line, 2), 3);
-    if r > 3 {
+    let Some(r) = number_to(field(line, 2), 3) else {
         return unknown(state);
-    }
+    };
     attachment(state, r, reader::attach::attach(ring, state.readers[r]))
 }
 
 pub fn follow(line: &[u8], state: State, ring: &[u8]) -> State
     ensures { (result.lengths ≡ state.lengths) × (result.writers ≡ state.writers) × (result.slips ≡ state.slips) }
 {
-    let r = number_to(field(line, 2), 3);
-    if r > 3 {
+    let Some(r) = number_to(field(line, 2), 3) else {
         return unknown(state);
-    }
+    };
     attachment(state, r, follow::follow(ring, state.readers[r]))
 }
 
 // An event's bytes stand at the front of the output buffer.
-fn reading(answer: Reading, out: &[u8]) {
+fn reading(answer: Result<Reading, Refusal>, out: &[u8]) {
     match answer {
-        Reading::Event(size) => {
+        Ok(Reading::Event(size)) => {
             say::number(b"event ", size);
             say::words(b" bytes ");
             if size <= out.len() as u64 {
-                let end = size as usize;
-                say::bytes(&out[0..end]);
+                say::bytes(&out[0..size as usize]);
             }
         }
-        Reading::Empty => say::words(b"empty"),
-        Reading::Moved => say::words(b"moved"),
-        Reading::Refused(refused) => say::refusal(refused),
+        Ok(Reading::Empty) => say::words(b"empty"),
+        Ok(Reading::Moved) => say::words(b"moved"),
+        Err(refused) => say::refusal(refused),
     }
 }
 
 pub fn read(line: &[u8], state: State, ring: &[u8], out: &mut [u8]) -> State
     ensures { (result.lengths ≡ state.lengths) × (result.writers ≡ state.writers) × (result.slips ≡ state.slips) }
 {
-    let r = number_to(field(line, 2), 3);
-    let n = number_to(field(line, 3), 40960);
-    if r > 3 {
+    let Some(r) = number_to(field(line, 2), 3) else {
         return unknown(state);
-    }
+    };
+    let Some(n) = number_to(field(line, 3), 40960) else {
+        return unknown(state);
+    };
     if n > out.len() {
         return unknown(state);
     }
     let answered = reader::read::read(ring, state.readers[r], &mut out[0..n]);
-    let answer = answered.answer;
-    reading(answer, out);
+    reading(answered.answer, out);
     say::reader(answered.reader);
-    with_reader(state, r, answered.reader)
+    State {
+        readers: with(state.readers, r, answered.reader),
+        ..state
+    }
 }

@@ -3,27 +3,23 @@
 
 ghost use Rattle.std.specs.Prelude.{◌≡◌};
 
-use difference_rules::Difference;
-use recording_rules::Recorded;
 use replay_state::say;
 use replay_state::state::{State, unknown};
-use script::Parsed;
 use script::field::field;
 use script::number::{number, number_to};
-use verification_rules::Verified;
+use table_rules::Refusal;
 
 // The bytes put stand at the front of the output buffer, and there are never more of them than it has.
-fn piece(answer: Recorded, out: &[u8]) {
+fn piece(answer: Result<u64, Refusal>, out: &[u8]) {
     match answer {
-        Recorded::Placed(count) => {
+        Ok(count) => {
             say::number(b"placed ", count);
             say::words(b" bytes ");
             if count <= out.len() as u64 {
-                let end = count as usize;
-                say::bytes(&out[0..end]);
+                say::bytes(&out[0..count as usize]);
             }
         }
-        Recorded::Refused(refused) => say::refusal(refused),
+        Err(refused) => say::refusal(refused),
     }
     say::words(b"\n");
 }
@@ -32,8 +28,10 @@ fn piece(answer: Recorded, out: &[u8]) {
 pub fn record(line: &[u8], state: State, ring: &[u8], out: &mut [u8]) -> State
     ensures { result ≡ state }
 {
-    let n = number_to(field(line, 3), 40960);
-    let Parsed::Is(placed) = number(field(line, 2)) else {
+    let Some(placed) = number(field(line, 2)) else {
+        return unknown(state);
+    };
+    let Some(n) = number_to(field(line, 3), 40960) else {
         return unknown(state);
     };
     if n > out.len() {
@@ -44,18 +42,12 @@ pub fn record(line: &[u8], state: State, ring: &[u8], out: &mut [u8]) -> State
     state
 }
 
-fn comparison(difference: Difference) {
-    match difference {
-        Difference::Same => say::words(b"same"),
-        Difference::At(place) => say::number(b"differs at ", place),
-    }
-}
-
 // The line has no further field, and there is no record.
 pub fn verify(ring: &[u8], file: &[u8]) {
     match verification::verify(ring, file) {
-        Verified::Compared(difference) => comparison(difference),
-        Verified::Refused(refused) => say::refusal(refused),
+        Ok(None) => say::words(b"same"),
+        Ok(Some(place)) => say::number(b"differs at ", place),
+        Err(refused) => say::refusal(refused),
     }
     say::words(b"\n");
 }

@@ -1,57 +1,38 @@
--- A field's bytes in a room: as many as are counted, at its front. By what the field is: a dash, pairs of digits, or neither.
-use Prim.Native.Nat.{ℕ, ◌+◌, ◌-◌, ◌/◌, ◌≤◌, ◌<◌}
+-- A field's bytes in a room: as many as are counted, at its front.
+use Prim.Native.Nat.{ℕ, ◌+◌, ◌-◌}
 use native.Mathlib.Omega.{arith}
 use mathlib.Core.Path.{◌≡◌, refl, sym, ap, ap₂, ◌∙◌}
-use mathlib.Core.Logic.{⊎_elim}
-use mathlib.Core.Bool.{true, false, cond}
-use mathlib.Core.List.{List, [], ◌∷◌, ◌++◌}
+use mathlib.Core.Bool.{cond}
+use mathlib.Core.List.{List}
 use lib.ListN.{length, take, drop}
 use lib.Seq.{sets, sets-eq, take_at}
-use lib.Dec.{ltb}
-use borrow.Author.Tests.{lt-ltb, le-ltb}
-use Rattle.table_rules.proofs.Tests.{either}
+use Rattle.std.specs.Prelude.{Option, Some, None, is_some}
 use Rattle.serial_rules.specs.Feed.{feed}
 use Rattle.serial_rules.specs.declared.Listener.{Listener}
-use Rattle.script.specs.Hex.{is_dash, spells, unhex, hex_count, hex_bytes}
-use Rattle.script.proofs.Pairs.{count_dash, count_bad, count_spelt, bytes_dash, bytes_spelt}
+use Rattle.script.specs.Hex.{hex_count, hex_bytes}
+use Rattle.script.proofs.Pairs.{counted}
 
-unhex_length : (digits : List ℕ) → length (unhex digits) ≡ length digits / 2
-unhex_length [] = refl
-unhex_length (high ∷ []) = refl
-unhex_length (high ∷ low ∷ digits) = omega (arith, unhex_length digits)
-
-bytes_counted : (room : ℕ) (field : List ℕ) → hex_count room field ≤ room → length (hex_bytes room field) ≡ hex_count room field
-bytes_counted room field fits =
-    ⊎_elim
-    (λ (dash : is_dash field ≡ true). ap length (bytes_dash room field dash) ∙ sym (count_dash room field dash))
-    (λ (dash : is_dash field ≡ false).
-    ⊎_elim
-    (λ (is : spells room field ≡ true). ap length (bytes_spelt room field dash is) ∙ unhex_length field ∙ sym (count_spelt room field dash is))
-    (λ (not' : spells room field ≡ false). absurd (omega (arith, count_bad room field dash not')))
-    (either (spells room field)))
-    (either (is_dash field))
-
-pub spelt_front : (field before : List ℕ) (n : ℕ) → n ≡ hex_count (length before) field → n ≤ length before
+pub spelt_front : (field before : List ℕ) (n : ℕ) → hex_count (length before) field ≡ Some n
     → take n (sets before 0 (hex_bytes (length before) field)) ≡ hex_bytes (length before) field
-spelt_front field before n is fits =
+spelt_front field before n is =
     let bytes : List ℕ = hex_bytes (length before) field in
-    let size : length bytes ≡ n = bytes_counted (length before) field (omega arith) ∙ sym is in
-    ap (take n) (sets-eq bytes before 0 (omega arith)) ∙ take_at bytes (drop (0 + length bytes) before) n size
+    let h = counted (length before) field n is in
+    ap (take n) (sets-eq bytes before 0 (omega (arith, h))) ∙ take_at bytes (drop (0 + length bytes) before) n h.0
 
 -- a field that spells nothing leaves the listener; one that spells bytes is fed
-module _ (l : Listener) (field whole before : List ℕ) (n : ℕ) (same : field ≡ whole) (room : 40960 ≡ length before) (counted : n ≡ hex_count (length before) field) where
-  counted_whole : n ≡ hex_count 40960 whole
-  counted_whole = counted ∙ ap₂ hex_count (sym room) same
+module _ (l : Listener) (field whole before : List ℕ) (same : field ≡ whole) (room : 40960 ≡ length before) where
+  count_whole : (count : Option ℕ) → count ≡ hex_count (length before) field → hex_count 40960 whole ≡ count
+  count_whole count is = ap₂ hex_count room (sym same) ∙ sym is
 
-  pub unread : (other : Listener) → 40960 < n → l ≡ cond (ltb 40960 (hex_count 40960 whole)) l other
-  unread other many = rw (lt-ltb 40960 (hex_count 40960 whole) (omega (arith, counted_whole)))
+  pub unread : (other : Listener) → None ≡ hex_count (length before) field → l ≡ cond (is_some (hex_count 40960 whole)) other l
+  unread other none = rw (count_whole None none) refl
 
-  pub read : (filled : List ℕ) → filled ≡ sets before 0 (hex_bytes (length before) field) → (after : Listener) → n ≤ 40960
-      → after ≡ (feed l (take (n - 0) (drop 0 filled))).listener
-      → after ≡ cond (ltb 40960 (hex_count 40960 whole)) l (feed l (hex_bytes 40960 whole)).listener
-  read filled put after few is =
+  pub read : (n : ℕ) → Some n ≡ hex_count (length before) field → (filled : List ℕ) → filled ≡ sets before 0 (hex_bytes (length before) field)
+      → (after : Listener) → after ≡ (feed l (take (n - 0) (drop 0 filled))).listener
+      → after ≡ cond (is_some (hex_count 40960 whole)) (feed l (hex_bytes 40960 whole)).listener l
+  read n some filled put after is =
       let all : n - 0 ≡ n = omega arith in
-      rw (le-ltb 40960 (hex_count 40960 whole) (omega (arith, counted_whole)))
+      rw (count_whole (Some n) some)
       (is
       ∙ ap₂ (λ (k : ℕ) (bs : List ℕ). (feed l (take k bs)).listener) all put
-      ∙ ap (λ (bs : List ℕ). (feed l bs).listener) (spelt_front field before n counted (omega arith) ∙ ap₂ hex_bytes (sym room) same))
+      ∙ ap (λ (bs : List ℕ). (feed l bs).listener) (spelt_front field before n (sym some) ∙ ap₂ hex_bytes (sym room) same))

@@ -7,8 +7,8 @@ ghost use Rattle.replay_serial.specs.Line.{fed_line, heard_line};
 ghost use Rattle.serial_rules.specs.Step.{fresh_listener as nothingHeard};
 
 use crate::tell::{fault, report};
-use reading_rules::{Ending, Fault};
-use replay_state::room::buffer_room;
+use reading_rules::Fault;
+use replay_state::room::BUFFER_ROOM;
 use replay_state::say;
 use replay_words::Serial;
 use script::field::field;
@@ -16,6 +16,7 @@ use script::hex::hex;
 use serial::listener::fresh;
 use serial_rules::{Listener, Report};
 use table_rules::Refusal;
+use text::room::room;
 
 pub mod tell;
 
@@ -27,16 +28,12 @@ fn take(l: Listener, piece: &[u8]) -> Listener
     let mut at = 0;
     while at < piece.len() {
         let s = serial::step(listener, &piece[at..]);
-        let used = s.used;
-        if used == 0 {
+        if s.used == 0 {
             return listener;
         }
-        let told = s.report;
-        let next = s.listener;
-        let kept = next.kept;
-        report(told, kept, &piece[at..]);
-        listener = next;
-        at += used;
+        report(s.report, s.listener.kept, &piece[at..]);
+        listener = s.listener;
+        at += s.used;
     }
     listener
 }
@@ -45,9 +42,7 @@ fn take(l: Listener, piece: &[u8]) -> Listener
 fn answer(l: Listener, piece: &[u8]) -> Listener
     ensures { result ≡ (feed l piece.now).listener }
 {
-    let s = serial::step(l, piece);
-    let told = s.report;
-    match told {
+    match serial::step(l, piece).report {
         Report::Refused => say::refusal(Refusal::Far),
         _ => say::words(b"fed"),
     }
@@ -58,12 +53,11 @@ fn answer(l: Listener, piece: &[u8]) -> Listener
 fn feed(line: &[u8], l: Listener) -> Listener
     ensures { result ≡ fed_line line.now l }
 {
-    let mut bytes = buffer_room();
-    let n = hex(field(line, 1), &mut bytes);
-    if n > 40960 {
+    let mut bytes = room::<BUFFER_ROOM>();
+    let Some(n) = hex(field(line, 1), &mut bytes) else {
         say::words(b"unknown\n");
         return l;
-    }
+    };
     let next = answer(l, &bytes[0..n]);
     say::words(b"\n");
     next
@@ -75,8 +69,8 @@ fn end(l: Listener) -> Listener
 {
     say::words(b"ended");
     match serial::end(l) {
-        Ending::Nothing => {}
-        Ending::Early(place) => fault(Fault::Early, place),
+        None => {}
+        Some(place) => fault(Fault::Early, place),
     }
     say::words(b"\n");
     fresh()

@@ -1,47 +1,42 @@
 // The commands on the bytes of one buffer: size, put, get.
 ghost use Rattle.std.specs.Prelude.{◌≡◌, ◌≤◌};
 
-use replay_state::room::buffer_room;
+use replay_state::room::BUFFER_ROOM;
 use replay_state::say;
-use replay_state::state::{State, unknown, with_length};
-use script::Parsed;
+use replay_state::state::{State, unknown, with};
 use script::field::field;
 use script::hex::hex;
 use script::number::number;
-use word::run::{clear, copy};
+use text::room::room;
+use word::run::copy;
 
 pub fn size(line: &[u8], state: State, b: usize, buffer: &mut [u8]) -> State
     requires { b ≤ 3 }
     ensures { (result.writers ≡ state.writers) × (result.readers ≡ state.readers) × (result.slips ≡ state.slips) }
 {
-    let Parsed::Is(n) = number(field(line, 2)) else {
+    let Some(n) = number(field(line, 2)) else {
         return unknown(state);
     };
     if n > buffer.len() as u64 {
         say::words(b"too long\n");
         return state;
     }
-    clear(buffer);
+    buffer.fill(0);
     say::words(b"ok\n");
-    with_length(state, b, n as usize)
+    State {
+        lengths: with(state.lengths, b, n as usize),
+        ..state
+    }
 }
 
 pub fn put(line: &[u8], state: State, buffer: &mut [u8]) -> State
     ensures { result ≡ state }
 {
-    let mut bytes = buffer_room();
-    let n = hex(field(line, 3), &mut bytes);
-    let Parsed::Is(at) = number(field(line, 2)) else {
+    let mut bytes = room::<BUFFER_ROOM>();
+    let (Some(at), Some(n)) = (number(field(line, 2)), hex(field(line, 3), &mut bytes)) else {
         return unknown(state);
     };
-    if n > 40960 {
-        return unknown(state);
-    }
-    if at > buffer.len() as u64 {
-        say::words(b"outside\n");
-        return state;
-    }
-    if n > buffer.len() - at as usize {
+    if at > buffer.len() as u64 || n > buffer.len() - at as usize {
         say::words(b"outside\n");
         return state;
     }
@@ -53,17 +48,10 @@ pub fn put(line: &[u8], state: State, buffer: &mut [u8]) -> State
 pub fn get(line: &[u8], state: State, buffer: &[u8]) -> State
     ensures { result ≡ state }
 {
-    let Parsed::Is(at) = number(field(line, 2)) else {
+    let (Some(at), Some(n)) = (number(field(line, 2)), number(field(line, 3))) else {
         return unknown(state);
     };
-    let Parsed::Is(n) = number(field(line, 3)) else {
-        return unknown(state);
-    };
-    if at > buffer.len() as u64 {
-        say::words(b"outside\n");
-        return state;
-    }
-    if n > buffer.len() as u64 - at {
+    if at > buffer.len() as u64 || n > buffer.len() as u64 - at {
         say::words(b"outside\n");
         return state;
     }

@@ -2,46 +2,43 @@
 // says its answer.
 #![tactic(auto)]
 
-ghost use Rattle.std.specs.Prelude.{◌≡◌, ◌≤◌};
+ghost use Rattle.std.specs.Prelude.{◌≡◌, ◌≤◌, IfSome};
 ghost use Rattle.replay_slips.specs.Kept.{slips_after};
 
 use replay_state::say;
-use replay_state::state::{State, unknown, with_reader, with_slip};
-use script::Parsed;
+use replay_state::state::{State, unknown, with};
 use script::field::field;
 use script::number::{number, number_to};
 use slip_rules::{Confirming, Copying, Slip};
+use table_rules::Refusal;
 
-// Any numbers are taken.
+// The number that a slip goes under, and the slip. Any numbers are taken.
+fn slip_of(line: &[u8]) -> Option<(usize, Slip)>
+    ensures { IfSome result (λ found. found.0 ≤ 3) }
+{
+    let s = number_to(field(line, 1), 3)?;
+    let slip = Slip {
+        position: number(field(line, 2))?,
+        size: number(field(line, 3))?,
+        sequence: number(field(line, 4))?,
+        tail_seen: number(field(line, 5))?,
+    };
+    Some((s, slip))
+}
+
 pub fn set_slip(line: &[u8], state: State) -> State
     ensures lengths { result.lengths ≡ state.lengths }
     ensures writers { result.writers ≡ state.writers }
     ensures readers { result.readers ≡ state.readers }
 {
-    let s = number_to(field(line, 1), 3);
-    let Parsed::Is(position) = number(field(line, 2)) else {
+    let Some((s, slip)) = slip_of(line) else {
         return unknown(state);
     };
-    let Parsed::Is(size) = number(field(line, 3)) else {
-        return unknown(state);
-    };
-    let Parsed::Is(sequence) = number(field(line, 4)) else {
-        return unknown(state);
-    };
-    let Parsed::Is(tail_seen) = number(field(line, 5)) else {
-        return unknown(state);
-    };
-    if s > 3 {
-        return unknown(state);
-    }
     say::words(b"ok\n");
-    let slip = Slip {
-        position: position,
-        size: size,
-        sequence: sequence,
-        tail_seen: tail_seen,
-    };
-    with_slip(state, s, slip)
+    State {
+        slips: with(state.slips, s, slip),
+        ..state
+    }
 }
 
 // An event's bytes stand at the front of the output buffer.
@@ -49,22 +46,21 @@ fn event(slip: Slip, out: &[u8]) {
     say::number(b"event ", slip.size);
     say::words(b" bytes ");
     if slip.size <= out.len() as u64 {
-        let end = slip.size as usize;
-        say::bytes(&out[0..end]);
+        say::bytes(&out[0..slip.size as usize]);
     }
     say::slip(slip);
 }
 
-fn copying(answer: Copying, out: &[u8]) {
+fn copying(answer: Result<Copying, Refusal>, out: &[u8]) {
     match answer {
-        Copying::Event(slip) => event(slip, out),
-        Copying::Empty => say::words(b"empty"),
-        Copying::Moved => say::words(b"moved"),
-        Copying::Refused(refused) => say::refusal(refused),
+        Ok(Copying::Event(slip)) => event(slip, out),
+        Ok(Copying::Empty) => say::words(b"empty"),
+        Ok(Copying::Moved) => say::words(b"moved"),
+        Err(refused) => say::refusal(refused),
     }
 }
 
-fn noted(state: State, s: usize, answer: Copying) -> State
+fn noted(state: State, s: usize, answer: Result<Copying, Refusal>) -> State
     requires { s ≤ 3 }
     ensures lengths { result.lengths ≡ state.lengths }
     ensures writers { result.writers ≡ state.writers }
@@ -72,10 +68,13 @@ fn noted(state: State, s: usize, answer: Copying) -> State
     ensures slips { result.slips ≡ slips_after answer s state.slips }
 {
     match answer {
-        Copying::Event(slip) => with_slip(state, s, slip),
-        Copying::Empty => state,
-        Copying::Moved => state,
-        Copying::Refused(_) => state,
+        Ok(Copying::Event(slip)) => State {
+            slips: with(state.slips, s, slip),
+            ..state
+        },
+        Ok(Copying::Empty) => state,
+        Ok(Copying::Moved) => state,
+        Err(_) => state,
     }
 }
 
@@ -83,30 +82,33 @@ fn noted(state: State, s: usize, answer: Copying) -> State
 pub fn copy(line: &[u8], state: State, ring: &[u8], out: &mut [u8]) -> State
     ensures { (result.lengths ≡ state.lengths) × (result.writers ≡ state.writers) }
 {
-    let r = number_to(field(line, 2), 3);
-    let s = number_to(field(line, 3), 3);
-    let n = number_to(field(line, 4), 40960);
-    if r > 3 {
+    let Some(r) = number_to(field(line, 2), 3) else {
         return unknown(state);
-    }
-    if s > 3 {
+    };
+    let Some(s) = number_to(field(line, 3), 3) else {
         return unknown(state);
-    }
+    };
+    let Some(n) = number_to(field(line, 4), 40960) else {
+        return unknown(state);
+    };
     if n > out.len() {
         return unknown(state);
     }
     let copied = slip::copy::copy(ring, state.readers[r], &mut out[0..n]);
-    let answer = copied.answer;
-    copying(answer, out);
+    copying(copied.answer, out);
     say::reader(copied.reader);
-    noted(with_reader(state, r, copied.reader), s, answer)
+    let next = State {
+        readers: with(state.readers, r, copied.reader),
+        ..state
+    };
+    noted(next, s, copied.answer)
 }
 
-fn confirming(answer: Confirming) {
+fn confirming(answer: Result<Confirming, Refusal>) {
     match answer {
-        Confirming::Done => say::words(b"done"),
-        Confirming::Again => say::words(b"again"),
-        Confirming::Refused(refused) => say::refusal(refused),
+        Ok(Confirming::Done) => say::words(b"done"),
+        Ok(Confirming::Again) => say::words(b"again"),
+        Err(refused) => say::refusal(refused),
     }
 }
 
@@ -115,17 +117,17 @@ pub fn confirm(line: &[u8], state: State, ring: &[u8]) -> State
     ensures writers { result.writers ≡ state.writers }
     ensures slips { result.slips ≡ state.slips }
 {
-    let r = number_to(field(line, 2), 3);
-    let s = number_to(field(line, 3), 3);
-    if r > 3 {
+    let Some(r) = number_to(field(line, 2), 3) else {
         return unknown(state);
-    }
-    if s > 3 {
+    };
+    let Some(s) = number_to(field(line, 3), 3) else {
         return unknown(state);
-    }
+    };
     let confirmed = slip::confirm::confirm(ring, state.readers[r], state.slips[s]);
-    let answer = confirmed.answer;
-    confirming(answer);
+    confirming(confirmed.answer);
     say::reader(confirmed.reader);
-    with_reader(state, r, confirmed.reader)
+    State {
+        readers: with(state.readers, r, confirmed.reader),
+        ..state
+    }
 }

@@ -1,6 +1,6 @@
-// Answers to standard output.
+// Answers to standard output, by bytes: an answer goes out as far as it is known, and has no `Err` to hand on.
 use crate::adler::adler32;
-use crate::room::text_room;
+use crate::room::{BUFFER_ROOM, TEXT_ROOM};
 use io::write_all;
 use reader_rules::Reader;
 use script::hex::put_hex;
@@ -9,6 +9,7 @@ use status::STDOUT_FILENO;
 use table::paper_number;
 use table_rules::Refusal;
 use text::decimal::number_text;
+use text::room::room;
 use writer_rules::Writer;
 
 pub fn words(bytes: &[u8]) {
@@ -24,10 +25,10 @@ pub fn number(label: &[u8], n: u64) {
 
 // No buffer is longer than 40,960 bytes, so that all of its bytes are written.
 pub fn bytes(buffer: &[u8]) {
-    if buffer.len() > 40960 {
+    if buffer.len() > BUFFER_ROOM {
         return;
     }
-    let mut text = text_room();
+    let mut text = room::<TEXT_ROOM>();
     let end = put_hex(buffer, &mut text, 0);
     words(&text[0..end]);
 }

@@ -10,7 +10,8 @@ use slip_rules::Slip;
 use writer::zeros;
 use writer_rules::Writer;
 
-// How many bytes of each buffer are in use, the records, and the slips.
+// How many bytes of each buffer are in use, the records, and the slips: four tables, since a line names one of each by a number of its own. An index below
+// four is a clause: a type for it would be opened again at each table.
 #[derive(Clone, Copy)]
 pub struct State {
     pub lengths: [usize; 4],
@@ -41,61 +42,19 @@ pub fn fresh() -> State
     }
 }
 
-pub fn with_length(state: State, b: usize, length: usize) -> State
-    requires { b ≤ 3 }
-    ensures lengths { result.lengths ≡ set state.lengths b length }
-    ensures writers { result.writers ≡ state.writers }
-    ensures readers { result.readers ≡ state.readers }
-    ensures slips { result.slips ≡ state.slips }
+// The same records, or lengths, but for one.
+pub fn with<T: Copy>(items: [T; 4], i: usize, item: T) -> [T; 4]
+    requires { i ≤ 3 }
+    ensures { result ≡ set items i item }
 {
-    let mut next = state;
-    next.lengths[b] = length;
+    let mut next = items;
+    next[i] = item;
     next
 }
 
-pub fn with_writer(state: State, w: usize, writer: Writer) -> State
-    requires { w ≤ 3 }
-    ensures lengths { result.lengths ≡ state.lengths }
-    ensures writers { result.writers ≡ set state.writers w writer }
-    ensures readers { result.readers ≡ state.readers }
-    ensures slips { result.slips ≡ state.slips }
-{
-    let mut next = state;
-    next.writers[w] = writer;
-    next
-}
-
-pub fn with_reader(state: State, r: usize, reader: Reader) -> State
-    requires { r ≤ 3 }
-    ensures lengths { result.lengths ≡ state.lengths }
-    ensures writers { result.writers ≡ state.writers }
-    ensures readers { result.readers ≡ set state.readers r reader }
-    ensures slips { result.slips ≡ state.slips }
-{
-    let mut next = state;
-    next.readers[r] = reader;
-    next
-}
-
-pub fn with_slip(state: State, s: usize, slip: Slip) -> State
-    requires { s ≤ 3 }
-    ensures lengths { result.lengths ≡ state.lengths }
-    ensures writers { result.writers ≡ state.writers }
-    ensures readers { result.readers ≡ state.readers }
-    ensures slips { result.slips ≡ set state.slips s slip }
-{
-    let mut next = state;
-    next.slips[s] = slip;
-    next
-}
-
-// A line that is no command, or has a wrong field, changes nothing. That is said part by part too: most lines ask for some parts alone.
+// A line that is no command, or has a wrong field, changes nothing.
 pub fn unknown(state: State) -> State
-    ensures whole { result ≡ state }
-    ensures lengths { result.lengths ≡ state.lengths }
-    ensures writers { result.writers ≡ state.writers }
-    ensures readers { result.readers ≡ state.readers }
-    ensures slips { result.slips ≡ state.slips }
+    ensures { result ≡ state }
 {
     words(b"unknown\n");
     state

@@ -37,7 +37,7 @@ fn on_pair(
     }
 }
 
-// From buffer b to one of the three others, whose numbers are i, j and k; `to` is b itself or no buffer where it is none of them.
+// From buffer b to one of the three others, each with its number; `to` is b itself or no buffer where it is none of them.
 fn on_others(
     word: Pair,
     line: &[u8],
@@ -54,17 +54,12 @@ fn on_others(
     requires { (b ≤ 3) × (i ≤ 3) × (j ≤ 3) × (k ≤ 3) }
     ensures { (result.lengths ≡ state.lengths) × (result.readers ≡ state.readers) × (result.slips ≡ state.slips) }
 {
-    let to = number_to(field(line, 2), 3);
-    if to == i {
-        return on_pair(word, line, state, b, i, old, x);
+    match number_to(field(line, 2), 3) {
+        Some(to) if to == i => on_pair(word, line, state, b, i, old, x),
+        Some(to) if to == j => on_pair(word, line, state, b, j, old, y),
+        Some(to) if to == k => on_pair(word, line, state, b, k, old, z),
+        _ => unknown(state),
     }
-    if to == j {
-        return on_pair(word, line, state, b, j, old, y);
-    }
-    if to == k {
-        return on_pair(word, line, state, b, k, old, z);
-    }
-    unknown(state)
 }
 
 pub fn on_two(
@@ -79,10 +74,10 @@ pub fn on_two(
     ensures { (result.lengths ≡ state.lengths) × (result.readers ≡ state.readers) × (result.slips ≡ state.slips) }
 {
     match number_to(field(line, 1), 3) {
-        0 => on_others(word, line, state, 0, 1, 2, 3, first, second, third, fourth),
-        1 => on_others(word, line, state, 1, 0, 2, 3, second, first, third, fourth),
-        2 => on_others(word, line, state, 2, 0, 1, 3, third, first, second, fourth),
-        3 => on_others(word, line, state, 3, 0, 1, 2, fourth, first, second, third),
+        Some(0) => on_others(word, line, state, 0, 1, 2, 3, first, second, third, fourth),
+        Some(1) => on_others(word, line, state, 1, 0, 2, 3, second, first, third, fourth),
+        Some(2) => on_others(word, line, state, 2, 0, 1, 3, third, first, second, fourth),
+        Some(3) => on_others(word, line, state, 3, 0, 1, 2, fourth, first, second, third),
         _ => unknown(state),
     }
 }

@@ -1,81 +1,80 @@
 // The operations that change a ring: a function for each, which reads the line's fields, makes the call and says its answer.
 #![tactic(auto)]
 
-ghost use Rattle.std.specs.Prelude.{◌≡◌};
+ghost use Rattle.std.specs.Prelude.{◌≡◌, ◌≤◌, IfSome};
 
-use create_rules::Created;
-use emit_rules::Label;
-use replay_state::room::buffer_room;
+use emit_rules::{Label, Outcome};
+use replay_state::room::BUFFER_ROOM;
 use replay_state::say;
-use replay_state::state::{State, unknown, with_writer};
-use script::Parsed;
+use replay_state::state::{State, unknown, with};
 use script::field::field;
 use script::hex::hex;
 use script::number::{number, number_to};
+use swap_rules::SwapOutcome;
+use table_rules::Refusal;
+use text::room::room;
 
 pub fn create(line: &[u8], state: State, ring: &mut [u8]) -> State
     ensures { result ≡ state }
 {
-    let cpu_id = number_to(field(line, 2), 65535);
-    if cpu_id > 65535 {
+    let Some(cpu_id) = number_to(field(line, 2), 65535) else {
         return unknown(state);
-    }
+    };
     match create::create(ring, cpu_id as u16) {
-        Created::Done => say::words(b"done"),
-        Created::Refused(refused) => say::refusal(refused),
+        Ok(()) => say::words(b"done"),
+        Err(refused) => say::refusal(refused),
     }
     say::words(b"\n");
     state
 }
 
-fn emission(answer: emit_rules::Outcome) {
+fn emission(answer: Result<Outcome, Refusal>) {
     match answer {
-        emit_rules::Outcome::Done => say::words(b"done"),
-        emit_rules::Outcome::Wake => say::words(b"wake"),
-        emit_rules::Outcome::Dropped => say::words(b"dropped"),
-        emit_rules::Outcome::Refused(refused) => say::refusal(refused),
+        Ok(Outcome::Done) => say::words(b"done"),
+        Ok(Outcome::Wake) => say::words(b"wake"),
+        Ok(Outcome::Dropped) => say::words(b"dropped"),
+        Err(refused) => say::refusal(refused),
     }
 }
 
-// The fields that an emission has beside its payload.
-fn emit_payload(line: &[u8], state: State, ring: &mut [u8], payload: &[u8]) -> State
-    ensures { (result.lengths ≡ state.lengths) × (result.readers ≡ state.readers) × (result.slips ≡ state.slips) }
+// The number of the writer's record, and what the line says of the event beside its payload.
+fn label_of(line: &[u8]) -> Option<(usize, Label)>
+    ensures { IfSome result (λ found. found.0 ≤ 3) }
 {
-    let w = number_to(field(line, 2), 3);
-    let event_type = number_to(field(line, 4), 4294967295);
-    let origin_class = number_to(field(line, 5), 255);
-    let Parsed::Is(timestamp) = number(field(line, 3)) else {
-        return unknown(state);
-    };
-    if w > 3 {
-        return unknown(state);
-    }
-    if event_type > 4294967295 {
-        return unknown(state);
-    }
-    if origin_class > 255 {
-        return unknown(state);
-    }
+    let w = number_to(field(line, 2), 3)?;
+    let timestamp = number(field(line, 3))?;
+    let event_type = number_to(field(line, 4), u32::MAX)?;
+    let origin_class = number_to(field(line, 5), 255)?;
     let label = Label {
-        timestamp: timestamp,
+        timestamp,
         event_type: event_type as u32,
         origin_class: origin_class as u8,
     };
+    Some((w, label))
+}
+
+fn emit_payload(line: &[u8], state: State, ring: &mut [u8], payload: &[u8]) -> State
+    ensures { (result.lengths ≡ state.lengths) × (result.readers ≡ state.readers) × (result.slips ≡ state.slips) }
+{
+    let Some((w, label)) = label_of(line) else {
+        return unknown(state);
+    };
     let emitted = emit::emit(ring, state.writers[w], label, payload);
-    let outcome = emitted.outcome;
-    emission(outcome);
+    emission(emitted.outcome);
     say::writer(emitted.writer);
-    with_writer(state, w, emitted.writer)
+    State {
+        writers: with(state.writers, w, emitted.writer),
+        ..state
+    }
 }
 
 pub fn emit(line: &[u8], state: State, ring: &mut [u8]) -> State
     ensures { (result.lengths ≡ state.lengths) × (result.readers ≡ state.readers) × (result.slips ≡ state.slips) }
 {
-    let mut payload = buffer_room();
-    let n = hex(field(line, 6), &mut payload);
-    if n > 40960 {
+    let mut payload = room::<BUFFER_ROOM>();
+    let Some(n) = hex(field(line, 6), &mut payload) else {
         return unknown(state);
-    }
+    };
     emit_payload(line, state, ring, &payload[0..n])
 }
 
@@ -83,32 +82,32 @@ pub fn emit(line: &[u8], state: State, ring: &mut [u8]) -> State
 pub fn emitlen(line: &[u8], state: State, ring: &mut [u8]) -> State
     ensures { (result.lengths ≡ state.lengths) × (result.readers ≡ state.readers) × (result.slips ≡ state.slips) }
 {
-    let n = number_to(field(line, 6), 40960);
-    if n > 40960 {
+    let Some(n) = number_to(field(line, 6), 40960) else {
         return unknown(state);
-    }
-    let payload = buffer_room();
+    };
+    let payload = room::<BUFFER_ROOM>();
     emit_payload(line, state, ring, &payload[0..n])
 }
 
-fn exchange(answer: swap_rules::SwapOutcome) {
+fn exchange(answer: Result<SwapOutcome, Refusal>) {
     match answer {
-        swap_rules::SwapOutcome::Done => say::words(b"done"),
-        swap_rules::SwapOutcome::Wake => say::words(b"wake"),
-        swap_rules::SwapOutcome::Refused(refused) => say::refusal(refused),
+        Ok(SwapOutcome::Done) => say::words(b"done"),
+        Ok(SwapOutcome::Wake) => say::words(b"wake"),
+        Err(refused) => say::refusal(refused),
     }
 }
 
 pub fn swap(line: &[u8], state: State, old: &mut [u8], new: &mut [u8]) -> State
     ensures { (result.lengths ≡ state.lengths) × (result.readers ≡ state.readers) × (result.slips ≡ state.slips) }
 {
-    let w = number_to(field(line, 3), 3);
-    if w > 3 {
+    let Some(w) = number_to(field(line, 3), 3) else {
         return unknown(state);
-    }
+    };
     let swapped = swap::swap(old, new, state.writers[w]);
-    let outcome = swapped.outcome;
-    exchange(outcome);
+    exchange(swapped.outcome);
     say::writer(swapped.writer);
-    with_writer(state, w, swapped.writer)
+    State {
+        writers: with(state.writers, w, swapped.writer),
+        ..state
+    }
 }

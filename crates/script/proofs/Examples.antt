@@ -1,8 +1,8 @@
 -- Worked examples, by computing.
 use mathlib.Core.Path.{◌≡◌, refl}
 use mathlib.Core.List.{[], ◌∷◌}
-use Rattle.script.specs.declared.Parsed.TheVariants.{Is, Bad}
-use Rattle.script.specs.Field.{behind, field_of, space_of, parts}
+use Rattle.std.specs.Prelude.{Some, None}
+use Rattle.script.specs.Field.{behind, field_of, parts}
 use Rattle.script.specs.Number.{digit_on, leading_zero, read_number}
 use Rattle.script.specs.Hex.{value_of, is_dash, spells, hex_count, hex_bytes}
 
@@ -16,20 +16,19 @@ unfolding behind
 third_field = refl
 
 three_fields : parts (97 ∷ 98 ∷ 32 ∷ 32 ∷ 99 ∷ []) ≡ 3
-unfolding space_of
 three_fields = refl
 
 -- 18446744073709551615, and one more than that
-largest : read_number (49 ∷ 56 ∷ 52 ∷ 52 ∷ 54 ∷ 55 ∷ 52 ∷ 52 ∷ 48 ∷ 55 ∷ 51 ∷ 55 ∷ 48 ∷ 57 ∷ 53 ∷ 53 ∷ 49 ∷ 54 ∷ 49 ∷ 53 ∷ []) ≡ Is 18446744073709551615
+largest : read_number (49 ∷ 56 ∷ 52 ∷ 52 ∷ 54 ∷ 55 ∷ 52 ∷ 52 ∷ 48 ∷ 55 ∷ 51 ∷ 55 ∷ 48 ∷ 57 ∷ 53 ∷ 53 ∷ 49 ∷ 54 ∷ 49 ∷ 53 ∷ []) ≡ Some 18446744073709551615
 unfolding read_number leading_zero digit_on
 largest = refl
 
-above : read_number (49 ∷ 56 ∷ 52 ∷ 52 ∷ 54 ∷ 55 ∷ 52 ∷ 52 ∷ 48 ∷ 55 ∷ 51 ∷ 55 ∷ 48 ∷ 57 ∷ 53 ∷ 53 ∷ 49 ∷ 54 ∷ 49 ∷ 54 ∷ []) ≡ Bad
+above : read_number (49 ∷ 56 ∷ 52 ∷ 52 ∷ 54 ∷ 55 ∷ 52 ∷ 52 ∷ 48 ∷ 55 ∷ 51 ∷ 55 ∷ 48 ∷ 57 ∷ 53 ∷ 53 ∷ 49 ∷ 54 ∷ 49 ∷ 54 ∷ []) ≡ None
 unfolding read_number leading_zero digit_on
 above = refl
 
 -- `07`
-led_by_zero : read_number (48 ∷ 55 ∷ []) ≡ Bad
+led_by_zero : read_number (48 ∷ 55 ∷ []) ≡ None
 unfolding read_number leading_zero digit_on
 led_by_zero = refl
 
@@ -38,6 +37,6 @@ lower_case : hex_bytes 2 (48 ∷ 102 ∷ []) ≡ 15 ∷ []
 unfolding hex_bytes is_dash spells value_of
 lower_case = refl
 
-upper_case : hex_count 2 (48 ∷ 70 ∷ []) ≡ 3
+upper_case : hex_count 2 (48 ∷ 70 ∷ []) ≡ None
 unfolding hex_count is_dash spells value_of
 upper_case = refl

@@ -1,7 +1,7 @@
 -- tests/second/README.md, decision 4: fields are what stands between single spaces. Definitions alone: nothing is assumed.
-use Rattle.std.specs.Prelude.{ℕ, zero, suc, ◌+◌}
-use mathlib.Core.{Bool.Bool, Bool.true, Bool.false, Bool.cond, List.List, List.[], List.◌∷◌}
-use lib.{Dec.eqb, ListN.length, ListN.drop}
+use Rattle.std.specs.Prelude.{ℕ, zero, suc, ◌+◌, ◌==◌, count_by, nat_eq}
+use mathlib.Core.{Bool.Bool, Bool.cond, List.List, List.[], List.◌∷◌}
+use lib.{Dec.eqb, ListN.length, ListN.drop, Pointwise.pointwise}
 
 -- what stands before the first `byte`; all, where there is none
 abbrev pub up_to : ℕ → List ℕ → List ℕ
@@ -17,17 +17,10 @@ abbrev pub field_of : ℕ → List ℕ → List ℕ
 field_of zero line = up_to 32 line
 field_of (suc k) line = field_of k (behind 32 line)
 
-unfoldable pub space_of : ℕ → ℕ
-space_of byte = cond (eqb byte 32) 1 0
-
 -- how many fields a line has: one more than spaces
 abbrev pub parts : List ℕ → ℕ
-parts [] = 1
-parts (x ∷ xs) = space_of x + parts xs
+parts line = count_by (λ byte. byte == 32) line + 1
 
 -- the same bytes
 abbrev pub alike : List ℕ → List ℕ → Bool
-alike [] [] = true
-alike [] (y ∷ ys) = false
-alike (x ∷ xs) [] = false
-alike (x ∷ xs) (y ∷ ys) = cond (eqb x y) (alike xs ys) false
+alike a b = pointwise nat_eq a b

@@ -1,108 +1,77 @@
 // Bytes as pairs of the digits 0-9a-f, and `-` for none.
-ghost use Rattle.std.specs.Prelude.{◌+◌, ◌≤◌, ◌≡◌, true, length};
+ghost use Rattle.std.specs.Prelude.{◌+◌, ◌≤◌, ◌≡◌, true, length, IfSome};
 ghost use Rattle.std.proofs.lemmas.List.Edits.{sets};
 ghost use Rattle.text.specs.Put.{Put};
-ghost use Rattle.script.specs.Hex.{value_of, all_hex, is_dash, spells, unhex, hex_count, hex_bytes, hex_digit, hex_text, hex_field};
+ghost use Rattle.script.specs.Hex.{value_of, all_hex, spells, unhex, hex_count, hex_bytes, hex_digit, hex_text, hex_field};
 
 use text::put::put_byte;
 
-// The value of a digit, or 16.
-fn digit_value(byte: u8) -> u8
-    ensures { (result ≡ value_of byte) × (result ≤ 16) }
+// The value of a digit.
+#[tactic(auto, unfolding(crate::specs::Hex::value_of))]
+fn digit_value(byte: u8) -> Option<u8>
+    ensures value { result ≡ value_of byte }
+    ensures bound { IfSome result (λ value. value ≤ 15) }
 {
-    if byte < 48 {
-        return 16;
+    match byte {
+        b'0'..=b'9' => Some(byte - b'0'),
+        b'a'..=b'f' => Some(byte - b'a' + 10),
+        _ => None,
     }
-    if byte < 58 {
-        return byte - 48;
-    }
-    if byte < 97 {
-        return 16;
-    }
-    if byte < 103 {
-        return byte - 87;
-    }
-    16
 }
 
 fn all_digits(field: &[u8]) -> bool
     ensures { result ≡ all_hex field.now }
 {
-    let mut i = 0;
-    while i < field.len() {
-        if digit_value(field[i]) == 16 {
-            return false;
-        }
-        i += 1;
-    }
-    true
-}
-
-fn is_dash(field: &[u8]) -> bool
-    ensures { result ≡ is_dash field.now }
-{
-    if field.len() != 1 {
-        return false;
-    }
-    field[0] == 45
+    field.iter().all(|byte| digit_value(*byte).is_some())
 }
 
 // Whether a field is one to `room` pairs of digits.
+#[tactic(auto, unfolding(crate::specs::Hex::spells))]
 fn is_pairs(field: &[u8], room: usize) -> bool
     ensures { result ≡ spells room field.now }
 {
-    if field.len() == 0 {
-        return false;
-    }
-    if field.len() % 2 == 1 {
-        return false;
-    }
-    if field.len() / 2 > room {
-        return false;
-    }
-    all_digits(field)
+    !field.is_empty() && field.len() % 2 == 0 && field.len() / 2 <= room && all_digits(field)
 }
 
-// The bytes of a field of pairs, to the front of `out`.
+// The bytes of a field of pairs, to the front of `out`. By the index: the library has no law on `iter_mut` beside `chunks`.
 fn put_pairs(field: &[u8], out: &mut [u8])
     requires { spells (length out.old) field.now ≡ true }
     ensures { out.new ≡ sets out.old 0 (unhex field.now) }
 {
-    let pairs = field.len() / 2;
-    let mut i = 0;
-    while i < pairs {
-        let high = digit_value(field[2 * i]);
-        let low = digit_value(field[2 * i + 1]);
+    for i in 0..field.len() / 2 {
+        let high = digit_value(field[2 * i]).unwrap();
+        let low = digit_value(field[2 * i + 1]).unwrap();
         out[i] = high * 16 + low;
-        i += 1;
     }
 }
 
-// Puts the bytes that a field spells to the front of `out` and answers how many. A field that spells none, or more than there is room for, is answered
-// by one more than there is room for, and writes nothing.
-pub fn hex(field: &[u8], out: &mut [u8]) -> usize
+// Puts the bytes that a field spells to the front of `out` and answers how many. A field that spells none, or more than there is room for, writes nothing.
+#[tactic(auto, unfolding(crate::specs::Hex::is_dash, crate::specs::Hex::hex_count, crate::specs::Hex::hex_bytes))]
+pub fn hex(field: &[u8], out: &mut [u8]) -> Option<usize>
     ensures count { result ≡ hex_count (length out.old) field.now }
-    ensures bound { result ≤ length out.old + 1 }
+    ensures bound { IfSome result (λ count. count ≤ length out.old) }
     ensures bytes { out.new ≡ sets out.old 0 (hex_bytes (length out.old) field.now) }
 {
-    if is_dash(field) {
-        return 0;
+    if matches!(field, [b'-']) {
+        return Some(0);
     }
     if !is_pairs(field, out.len()) {
-        return out.len() + 1;
+        return None;
     }
     put_pairs(field, out);
-    field.len() / 2
+    Some(field.len() / 2)
 }
 
+#[tactic(auto, unfolding(crate::specs::Hex::hex_digit))]
 fn digit_of(value: u8) -> u8
     requires { value ≤ 15 }
     ensures { result ≡ hex_digit value }
 {
     if value < 10 {
-        return 48 + value;
+        b'0' + value
+    } else {
+        b'a' + (value - 10)
     }
-    87 + value
 }
 
 // Two digits for each byte.
@@ -111,21 +80,20 @@ fn put_text(bytes: &[u8], out: &mut [u8], at: usize) -> usize
     ensures { Put out.old at (hex_text bytes.now) out.new result }
 {
     let mut next = at;
-    let mut i = 0;
-    while i < bytes.len() {
-        let low = put_byte(digit_of(bytes[i] / 16), out, next);
-        next = put_byte(digit_of(bytes[i] % 16), out, low);
-        i += 1;
+    for byte in bytes {
+        let low = put_byte(digit_of(*byte / 16), out, next);
+        next = put_byte(digit_of(*byte % 16), out, low);
     }
     next
 }
 
+#[tactic(auto, unfolding(crate::specs::Hex::hex_field))]
 pub fn put_hex(bytes: &[u8], out: &mut [u8], at: usize) -> usize
     requires { at + length (hex_field bytes.now) ≤ length out.old }
     ensures { Put out.old at (hex_field bytes.now) out.new result }
 {
-    if bytes.len() == 0 {
-        return put_byte(45, out, at);
+    if bytes.is_empty() {
+        return put_byte(b'-', out, at);
     }
     put_text(bytes, out, at)
 }

@@ -4,9 +4,3 @@
 pub mod field;
 pub mod hex;
 pub mod number;
-
-#[derive(Clone, Copy)]
-pub enum Parsed {
-    Is(u64),
-    Bad,
-}

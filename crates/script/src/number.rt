@@ -1,67 +1,48 @@
 // Decimal numbers: digits alone, no leading zero but 0 itself, up to 2^64 - 1.
-ghost use Rattle.std.specs.Prelude.{◌+◌, ◌≤◌, ◌≡◌};
+ghost use Rattle.std.specs.Prelude.{◌≡◌, ◌≤◌, IfSome};
 ghost use Rattle.script.specs.Number.{digit_on, leading_zero, read_number, within_most};
 
-use crate::Parsed;
-
 // n with one digit more behind it.
-fn digit_on(n: u64, byte: u8) -> Parsed
+#[tactic(auto, unfolding(crate::specs::Number::digit_on))]
+fn digit_on(n: u64, byte: u8) -> Option<u64>
     ensures { result ≡ digit_on n byte }
 {
-    if byte < 48 {
-        return Parsed::Bad;
+    if !byte.is_ascii_digit() {
+        return None;
     }
-    if byte > 57 {
-        return Parsed::Bad;
-    }
-    let digit = (byte - 48) as u64;
-    // n * 10 + digit above 2^64 - 1, with no sum that could pass it
-    if n > (u64::MAX - digit) / 10 {
-        return Parsed::Bad;
-    }
-    Parsed::Is(n * 10 + digit)
+    n.checked_mul(10)?.checked_add((byte - b'0') as u64)
 }
 
+#[tactic(auto, unfolding(crate::specs::Number::leading_zero))]
 fn leading_zero(field: &[u8]) -> bool
     ensures { result ≡ leading_zero field.now }
 {
-    if field.len() < 2 {
-        return false;
-    }
-    field[0] == 48
+    field.len() > 1 && field[0] == b'0'
 }
 
-pub fn number(field: &[u8]) -> Parsed
+#[tactic(auto, using(crate::proofs::Numbers::read_bad), unfolding(crate::specs::Number::read_number))]
+pub fn number(field: &[u8]) -> Option<u64>
     ensures { result ≡ read_number field.now }
 {
-    if field.len() == 0 {
-        return Parsed::Bad;
-    }
-    if leading_zero(field) {
-        return Parsed::Bad;
+    if field.is_empty() || leading_zero(field) {
+        return None;
     }
     let mut n = 0;
-    let mut i = 0;
-    while i < field.len() {
-        let Parsed::Is(longer) = digit_on(n, field[i]) else {
-            return Parsed::Bad;
-        };
-        n = longer;
-        i += 1;
+    for byte in field {
+        n = digit_on(n, *byte)?;
     }
-    Parsed::Is(n)
+    Some(n)
 }
 
-// A number of at most `most`; anything else is answered by one more than that, which no such number is.
-pub fn number_to(field: &[u8], most: u32) -> usize
+// A number of at most `most`.
+#[tactic(auto, unfolding(crate::specs::Number::within_most))]
+pub fn number_to(field: &[u8], most: u32) -> Option<usize>
     ensures value { result ≡ within_most most (read_number field.now) }
-    ensures bound { result ≤ most + 1 }
+    ensures bound { IfSome result (λ n. n ≤ most) }
 {
-    let Parsed::Is(n) = number(field) else {
-        return most as usize + 1;
-    };
+    let n = number(field)?;
     if n > most as u64 {
-        return most as usize + 1;
+        return None;
     }
-    n as usize
+    Some(n as usize)
 }

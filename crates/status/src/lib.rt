@@ -14,18 +14,15 @@ pub const STDERR_FILENO: i32 = 2;
 
 pub const STATUS_FILENO: i32 = 3;
 
-// With the good answer; with the other answer, or with none.
+// With the good answer; with the other answer, or with none. The numbers are the digits.
 #[derive(Clone, Copy)]
 pub enum Ended {
-    Good,
-    Other,
+    Good = 0,
+    Other = 1,
 }
 
 pub fn digit(ended: Ended) -> [u8; 1]
     ensures { result ≡ digit_of ended }
 {
-    match ended {
-        Ended::Good => [b'0'],
-        Ended::Other => [b'1'],
-    }
+    [b'0' + ended as u8]
 }

@@ -4,22 +4,23 @@ ghost use Rattle.std.specs.Prelude.{◌≤◌, length};
 use crate::print;
 use create::create;
 use emit::emit;
-use emit_rules::{Emitted, Label};
+use emit_rules::{Label, Outcome};
 use reader::attach::attach;
 use reader::read::read;
 use reader_record::reader_with;
 use reader_rules::{Reader, Reading};
+use replay_state::say::{number, words};
 use swap::swap;
-use word::number::{get32, get64};
+use word::number::Word;
 use writer::zeros;
-use writer_rules::Writer;
+use writer_rules::{Writer, Written};
 
 fn fresh_reader() -> Reader {
     reader_with(0, 0, 0, 0)
 }
 
 // An event with `size` zero bytes of payload.
-pub fn emitted(ring: &mut [u8], writer: Writer, size: usize) -> Emitted
+pub fn emitted(ring: &mut [u8], writer: Writer, size: usize) -> Written<Outcome>
     requires { size ≤ 480 }
 {
     let payload = [0u8; 480];
@@ -36,7 +37,7 @@ fn shown(line: u64, ring: &mut [u8], writer: Writer, size: usize) -> Writer
     requires { size ≤ 480 }
 {
     let answer = emitted(ring, writer, size);
-    print::number(b"", line);
+    number(b"", line);
     let outcome = answer.outcome;
     print::outcome(outcome);
     print::ring(ring);
@@ -48,31 +49,31 @@ fn shown(line: u64, ring: &mut [u8], writer: Writer, size: usize) -> Writer
 fn wrapped(ring: &[u8])
     requires { 8448 ≤ length ring.now }
 {
-    print::number(b"4 at offset 160 sequence ", get64(ring, 8360));
-    print::number(b" size ", get32(ring, 8352) as u64);
-    print::number(b" first stretch ", 256 - 160);
-    print::word(b"\n");
+    number(b"4 at offset 160 sequence ", u64::get(ring, 8360));
+    number(b" size ", u32::get(ring, 8352) as u64);
+    number(b" first stretch ", 256 - 160);
+    words(b"\n");
 }
 
 fn one_read(ring: &[u8], reader: Reader, out: &mut [u8]) -> Reader {
     let answer = read(ring, reader, out);
     let what = answer.answer;
     match what {
-        Reading::Event(size) => {
-            print::number(b"6 event ", answer.reader.last);
-            print::number(b" size ", size);
+        Ok(Reading::Event(size)) => {
+            number(b"6 event ", answer.reader.last);
+            number(b" size ", size);
         }
-        Reading::Empty => print::word(b"6 empty"),
-        Reading::Moved => print::word(b"6 moved"),
-        Reading::Refused(refused) => print::refusal(refused),
+        Ok(Reading::Empty) => words(b"6 empty"),
+        Ok(Reading::Moved) => words(b"6 moved"),
+        Err(refused) => print::refusal(refused),
     }
-    print::number(b" at ", answer.reader.read_pos);
+    number(b" at ", answer.reader.read_pos);
     let last = answer.reader.last;
     let handed = answer.reader.handed;
     if handed <= last {
-        print::number(b" missed ", last - handed);
+        number(b" missed ", last - handed);
     }
-    print::word(b"\n");
+    words(b"\n");
     answer.reader
 }
 
@@ -80,18 +81,18 @@ fn one_read(ring: &[u8], reader: Reader, out: &mut [u8]) -> Reader {
 fn swapped_to_512(ring: &mut [u8], writer: Writer) {
     let mut larger = [0u8; 8704];
     let answer = swap(ring, &mut larger, writer);
-    print::word(b"7 new");
+    words(b"7 new");
     print::ring(&larger);
     print::writer(answer.writer);
-    print::word(b"7 old");
+    words(b"7 old");
     print::ring(ring);
-    print::word(b"\n");
+    words(b"\n");
 }
 
 // Lines 1 to 7.
 pub fn one_ring() {
     let mut ring = [0u8; 8448];
-    create(&mut ring, 3);
+    let _ = create(&mut ring, 3);
     let reader = attach(&ring, fresh_reader()).reader;
     let mut writer = zeros();
     writer = shown(1, &mut ring, writer, 32);
@@ -113,12 +114,12 @@ pub fn one_ring() {
 // Line 8: sizes 32 and 256 in a ring of 512, swapped to 256.
 pub fn larger_first() {
     let mut ring = [0u8; 8704];
-    create(&mut ring, 3);
+    let _ = create(&mut ring, 3);
     let first = emitted(&mut ring, zeros(), 0).writer;
     let second = emitted(&mut ring, first, 224).writer;
     let mut smaller = [0u8; 8448];
     let answer = swap(&mut ring, &mut smaller, second);
-    print::word(b"8 new");
+    words(b"8 new");
     print::ring(&smaller);
     print::writer(answer.writer);
 }
@@ -126,11 +127,11 @@ pub fn larger_first() {
 // Line 9: one event of 512 in a ring of 1024, swapped to 256.
 pub fn nothing_fits() {
     let mut ring = [0u8; 9216];
-    create(&mut ring, 3);
+    let _ = create(&mut ring, 3);
     let only = emitted(&mut ring, zeros(), 480).writer;
     let mut smaller = [0u8; 8448];
     let answer = swap(&mut ring, &mut smaller, only);
-    print::word(b"9 new");
+    words(b"9 new");
     print::ring(&smaller);
     print::writer(answer.writer);
 }
@@ -144,10 +145,10 @@ fn two_alike(ring: &mut [u8], writer: Writer, size: usize) -> Writer
 
 // Line 10: sizes 32, 32, 256, 256 into a ring.
 fn four_events(ring: &mut [u8]) {
-    create(ring, 3);
+    let _ = create(ring, 3);
     let small = two_alike(ring, zeros(), 0);
     let large = two_alike(ring, small, 224);
-    print::word(b"10");
+    words(b"10");
     print::ring(ring);
     print::writer(large);
 }

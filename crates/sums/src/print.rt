@@ -1,60 +1,45 @@
-// Words and numbers to standard output.
+// What the sums say of an answer, a ring and a record, to standard output.
 use emit_rules::Outcome;
-use inspect_rules::Inspected;
-use io::{print_decimal, write_all};
 use page::open::open;
-use page_rules::Opened;
-use status::STDOUT_FILENO;
-use table::paper_number;
+use replay_state::say::{self, number, words};
 use table_rules::Refusal;
 use writer_rules::Writer;
 
-pub fn word(bytes: &[u8]) {
-    write_all(STDOUT_FILENO, bytes);
-}
-
-pub fn number(label: &[u8], n: u64) {
-    word(label);
-    print_decimal(STDOUT_FILENO, n);
-}
-
+// A refusal behind what stands in the line already.
 pub fn refusal(refused: Refusal) {
-    number(b" refused ", paper_number(refused) as u64);
-    if let Refusal::Damaged(damage) = refused {
-        number(b" at ", damage.position);
-        number(b" why ", damage.reason as u64);
-    }
+    words(b" ");
+    say::refusal(refused);
 }
 
-pub fn outcome(answer: Outcome) {
+pub fn outcome(answer: Result<Outcome, Refusal>) {
     match answer {
-        Outcome::Done => word(b" done"),
-        Outcome::Wake => word(b" wake"),
-        Outcome::Dropped => word(b" dropped"),
-        Outcome::Refused(refused) => refusal(refused),
+        Ok(Outcome::Done) => words(b" done"),
+        Ok(Outcome::Wake) => words(b" wake"),
+        Ok(Outcome::Dropped) => words(b" dropped"),
+        Err(refused) => refusal(refused),
     }
 }
 
 pub fn kept(ring: &[u8]) {
     match inspect::inspect(ring) {
-        Inspected::Whole(summary) => {
+        Ok(summary) => {
             number(b" kept ", summary.count);
             number(b" first ", summary.first);
             number(b" last ", summary.last);
         }
-        Inspected::Refused(refused) => refusal(refused),
+        Err(refused) => refusal(refused),
     }
 }
 
 // A ring's positions and generation, and what an inspection counts in it.
 pub fn ring(bytes: &[u8]) {
     match open(bytes) {
-        Opened::Page(page) => {
+        Ok(page) => {
             number(b" tail ", page.tail_pos);
             number(b" write ", page.write_pos);
             number(b" generation ", page.generation);
         }
-        Opened::Refused(refused) => refusal(refused),
+        Err(refused) => refusal(refused),
     }
     kept(bytes);
 }
@@ -63,5 +48,5 @@ pub fn writer(record: Writer) {
     number(b" | given ", record.last);
     number(b" dropped ", record.dropped);
     number(b" overwritten ", record.overwritten);
-    word(b"\n");
+    words(b"\n");
 }

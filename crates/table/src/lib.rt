@@ -6,7 +6,7 @@ ghost use Rattle.table_rules.specs.Refusals.{paper_number};
 
 use table_rules::Refusal;
 
-// 5.3: a refusal's number.
+// 5.3: a refusal's number. A match and no `as`: one refusal bears values.
 pub fn paper_number(refusal: Refusal) -> u8
     ensures { result ≡ paper_number refusal }
 {

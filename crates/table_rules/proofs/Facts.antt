@@ -3,9 +3,9 @@ use Prim.Native.Nat.{ℕ, zero, suc}
 use mathlib.Core.{Path.◌≡◌, Bool.Bool, Bool.true, Bool.false, List.List, List.[], List.◌∷◌}
 
 -- none of the conditions is met
-abbrev pub None : List Bool → Type 0
-None [] = Unit {0}
-None (test ∷ tests) = (test ≡ false) × None tests
+abbrev pub NoneMet : List Bool → Type 0
+NoneMet [] = Unit {0}
+NoneMet (test ∷ tests) = (test ≡ false) × NoneMet tests
 
 -- the condition at `turn`, counted from 0, is met, and none before it
 abbrev pub FirstMet : ℕ → List Bool → Type 0

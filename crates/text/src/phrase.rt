@@ -6,6 +6,7 @@ ghost use Rattle.text.specs.Phrase.{numbered, worded};
 use crate::decimal::put_number;
 use crate::put::{put_byte, put_bytes};
 
+#[tactic(auto, unfolding(crate::specs::Phrase::numbered))]
 pub fn put_numbered(n: u64, byte: u8, out: &mut [u8], at: usize) -> usize
     requires { at + length (numbered n byte) ≤ length out.old }
     ensures { Put out.old at (numbered n byte) out.new result }
@@ -14,6 +15,7 @@ pub fn put_numbered(n: u64, byte: u8, out: &mut [u8], at: usize) -> usize
     put_byte(byte, out, end)
 }
 
+#[tactic(auto, unfolding(crate::specs::Phrase::worded))]
 pub fn put_worded(word: &[u8], n: u64, out: &mut [u8], at: usize) -> usize
     requires { at + length (worded word.now n) ≤ length out.old }
     ensures { Put out.old at (worded word.now n) out.new result }

@@ -1,11 +1,9 @@
 -- RULES 10.10: what the program that checks a recording writes.
-use Rattle.std.specs.Prelude.{ℕ}
+use Rattle.std.specs.Prelude.{ℕ, Option, Some, None, Result, Ok, Err}
+use Rattle.table_rules.specs.declared.Refusal.{Refusal}
 use mathlib.Core.{List.List, List.[], List.◌∷◌, List.◌++◌}
 use lib.{ListN.length}
-use Rattle.difference_rules.specs.{declared.Difference.Difference}
-use Rattle.difference_rules.specs.declared.Difference.TheVariants.{Same, At}
-use Rattle.verification_rules.specs.{Verify.verified, declared.Verified.Verified}
-use Rattle.verification_rules.specs.declared.Verified.TheVariants.{Compared, Refused}
+use Rattle.verification_rules.specs.{Verify.verified}
 use Rattle.text.specs.{Phrase.worded}
 use Rattle.refusal_text.specs.{Lines.newline, Lines.refusal_line, Reply.Reply, Reply.wanted, Reply.other, Reply.hindrance}
 
@@ -30,13 +28,13 @@ unfoldable pub differs_line : ℕ → List ℕ
 differs_line place = worded differs_at place ++ (newline ∷ [])
 
 -- of a file of so many bytes
-abbrev pub compared_by : ℕ → Difference → Reply
-compared_by size Same = wanted (same_line size)
-compared_by size (At place) = other (differs_line place)
+abbrev pub compared_by : ℕ → Option ℕ → Reply
+compared_by size None = wanted (same_line size)
+compared_by size (Some place) = other (differs_line place)
 
-abbrev pub verdict_by : ℕ → Verified → Reply
-verdict_by size (Refused refusal) = hindrance (refusal_line refusal)
-verdict_by size (Compared difference) = compared_by size difference
+abbrev pub verdict_by : ℕ → Result (Option ℕ) Refusal → Reply
+verdict_by size (Err refusal) = hindrance (refusal_line refusal)
+verdict_by size (Ok difference) = compared_by size difference
 
 unfoldable pub verdict : List ℕ → List ℕ → Reply
 verdict ring file = verdict_by (length file) (verified ring file)

@@ -6,12 +6,10 @@ ghost use Rattle.text.specs.Put.{Put};
 ghost use Rattle.refusal_text.specs.Reply.{Stands};
 ghost use Rattle.verify_text.specs.Verdict.{same_line, differs_line, compared_by, verdict};
 
-use difference_rules::Difference;
 use refusal_text::{Kind, Replied, put_refusal_line};
 use text::phrase::put_worded;
 use text::put::{put_byte, put_bytes};
 use verification::verify;
-use verification_rules::Verified;
 
 // Twenty digits and the words around them have room in 32 bytes.
 fn put_same_line(size: u64, out: &mut [u8], at: usize) -> usize
@@ -32,15 +30,15 @@ fn put_differs_line(place: u64, out: &mut [u8], at: usize) -> usize
     put_byte(b'\n', out, end)
 }
 
-fn tell(difference: Difference, size: u64, out: &mut [u8; 64]) -> Replied
+fn tell(difference: Option<u64>, size: u64, out: &mut [u8; 64]) -> Replied
     ensures { Stands out.old (compared_by size difference) out.new result }
 {
     match difference {
-        Difference::Same => Replied {
+        None => Replied {
             kind: Kind::Wanted,
             count: put_same_line(size, out, 0),
         },
-        Difference::At(place) => Replied {
+        Some(place) => Replied {
             kind: Kind::Other,
             count: put_differs_line(place, out, 0),
         },
@@ -52,10 +50,10 @@ pub fn verify_text(ring: &[u8], file: &[u8], out: &mut [u8; 64]) -> Replied
     ensures { Stands out.old (verdict ring.now file.now) out.new result }
 {
     match verify(ring, file) {
-        Verified::Refused(refusal) => Replied {
+        Err(refusal) => Replied {
             kind: Kind::Hindrance,
             count: put_refusal_line(refusal, out, 0),
         },
-        Verified::Compared(difference) => tell(difference, file.len() as u64, out),
+        Ok(difference) => tell(difference, file.len() as u64, out),
     }
 }

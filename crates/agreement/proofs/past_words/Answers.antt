@@ -1,12 +1,10 @@
-use Prim.Native.Nat.{◌-◌}
-use native.Mathlib.Omega.{arith}
+use Rattle.std.proofs.Common.{◌*◌, arith}
 use Rattle.agreement.proofs.Steps.{alike_more}
-use borrow.Author.Rules.{rules}
 use Rattle.agreement.proofs.past_words.Goals as goal
 
 pub loop-i-preserved : goal.loop-i-preserved
-loop-i-preserved c = let a = c.args in
-    let more = alike_more a.a.now a.b.now c.loop-i.i 8 (λ k. (c.shared_slice_known-1.given k).fits)
-    (λ k. (c.shared_slice_known-2-1.given k).fits) c.loop-i.invariant.3 (omega arith) (omega arith)
-    (c.same_word.ensures c.if-same_word.true) in
-    (search rules, search rules, search rules, more)
+loop-i-preserved g c = let a = c.args in (
+  omega arith,
+  alike_more a.a.now a.b.now c.loop-i.i (g.row.WORDS * 8) (λ k. (c.type_inv.a k).fits) (λ k. (c.type_inv.b k).fits) c.loop-i.invariant.1
+      (omega arith) (omega arith) (c.are_same.ensures c.if-are_same.true),
+)

@@ -1,11 +1,9 @@
--- What a field spells stands at the room's front, as many bytes as are counted (`spelt_front`); a field that spells none is counted above the room.
-use native.Mathlib.Omega.{arith}
-use Rattle.replay_serial.proofs.Spelt.{read}
+-- What a field spells stands at the room's front, as many bytes as are counted (`spelt_front`); a field that spells none leaves the listener.
+use Rattle.replay_serial.proofs.Spelt.{read, unread}
 use Rattle.replay_serial.proofs.feed.Goals as goal
 
+pub returns-in_default : goal.returns-in_default
+returns-in_default c = unread _ _ _ c.room-bytes.result c.field.ensures c.room-bytes.ensures _ c.in_default.ensures.count
+
 pub returns : goal.returns
-returns c = let made = c.buffer_room-bytes in
-    let spelt = c.hex-n.ensures in
-    let few = c.if-n-gt40960.false in
-    read _ _ _ made.result _ c.field.ensures made.ensures spelt.count _ spelt.bytes _ (omega (arith, few))
-    c.answer-next.ensures
+returns c = read _ _ _ c.room-bytes.result c.field.ensures c.room-bytes.ensures _ c.in-Some.ensures.count _ c.hex.ensures.bytes _ c.answer-next.ensures

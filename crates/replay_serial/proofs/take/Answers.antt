@@ -49,11 +49,11 @@ again c uses =
           ∙ ap (λ (rest : List ℕ). (feed c.step-s.result.listener rest).listener) (drop-drop c.step-s.result.used c.loop-at.at c.args.piece.now),
     )
 
-pub returns-then-used-eq0 : goal.returns-then-used-eq0
-returns-then-used-eq0 c =
-    let s = (goal.at.returns-then-used-eq0 c).After-step-s in
+pub returns-then-s-eq0 : goal.returns-then-s-eq0
+returns-then-s-eq0 c =
+    let s = (goal.at.returns-then-s-eq0 c).After-step-s in
     let turn = c.loop-at.invariant in
-    sym (turn.2 ∙ ap (λ (fed : Fed). fed.listener) (feed_idle c.loop-at.listener (part s) turn.1 (some s) (used_is s ∙ c.if-used-eq0.true)))
+    sym (turn.2 ∙ ap (λ (fed : Fed). fed.listener) (feed_idle c.loop-at.listener (part s) turn.1 (some s) (used_is s ∙ c.if-s-eq0.true)))
 
 pub overflow_add-at : goal.overflow_add-at
 overflow_add-at c = omega (arith, within (goal.at.overflow_add-at c).After-step-s)
@@ -62,7 +62,7 @@ pub loop-at-smaller : goal.loop-at-smaller
 loop-at-smaller c = omega (arith, within (goal.at.loop-at-smaller c).After-step-s)
 
 pub loop-at-preserved : goal.loop-at-preserved
-loop-at-preserved c = again (goal.at.loop-at-preserved c).After-step-s c.if-used-eq0.false
+loop-at-preserved c = again (goal.at.loop-at-preserved c).After-step-s c.if-s-eq0.false
 
 pub returns : goal.returns
 returns c = let l = c.loop-at in

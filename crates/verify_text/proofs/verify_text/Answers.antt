@@ -5,12 +5,12 @@ use Rattle.text.proofs.Writing.{put_front}
 use Rattle.verify_text.specs.Verdict.{verdict}
 use Rattle.verify_text.proofs.verify_text.Goals as goal
 
-pub returns-in-Refused : goal.returns-in-Refused
+pub returns-in-Err : goal.returns-in-Err
 unfolding verdict
-returns-in-Refused c = let line = c.put_refusal_line.ensures in
-    rw (sym c.verify.ensures ∙ c.in-Refused.is)
+returns-in-Err c = let line = c.put_refusal_line.ensures in
+    rw (sym c.verify.ensures ∙ c.in-Err.is)
     (record { kind = refl; front = put_front line.put (omega (arith, line.put.place, line.upper_bound)) })
 
-pub returns-in-Compared : goal.returns-in-Compared
+pub returns-in-Ok : goal.returns-in-Ok
 unfolding verdict
-returns-in-Compared c = rw (sym c.verify.ensures ∙ c.in-Compared.is) c.tell.ensures
+returns-in-Ok c = rw (sym c.verify.ensures ∙ c.in-Ok.is) c.tell.ensures

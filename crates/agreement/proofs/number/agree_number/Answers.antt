@@ -1,16 +1,15 @@
 -- Bytes that say the number are its own (`word_agrees`); else they are counted, and neither has fewer (`agreeing_within`).
 use native.Mathlib.Omega.{arith}
 use mathlib.Core.Path.{sym, ◌∙◌}
-use borrow.Author.Tests.{eqb-true}
 use Rattle.difference_rules.proofs.Agreeing.{agreeing_within}
 use Rattle.agreement.specs.Word.{word_of}
 use Rattle.agreement.proofs.Steps.{word_length, word_agrees}
 use Rattle.agreement.proofs.number.agree_number.Goals as goal
 
-pub returns-then-get64-value : goal.returns-then-get64-value
-returns-then-get64-value c = let a = c.args in record {
+pub returns-then-get-value : goal.returns-then-get-value
+returns-then-get-value c = let a = c.args in record {
   count = sym (word_agrees a.value a.bytes.now (λ k. (c.type_inv.bytes k).fits) (omega arith)
-      (sym c.get64.ensures ∙ c.if-get64-value.true));
+      (sym c.get.ensures ∙ c.if-get-value.true));
   within = (omega arith, omega arith);
 }
 

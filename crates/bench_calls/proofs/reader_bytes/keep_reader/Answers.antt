@@ -7,6 +7,6 @@ use Rattle.bench_calls.proofs.reader_bytes.keep_reader.Goals as goal
 pub returns : goal.returns
 unfolding put_all
 returns c = let reader = c.args.reader in
-    let two = c.put64-2.ensures ∙ ap (λ (b : List ℕ). put b 8 8 reader.last) c.put64.ensures in
-    let three = c.put64-3.ensures ∙ ap (λ (b : List ℕ). put b 16 8 reader.handed) two in
-    c.put64-4.ensures ∙ ap (λ (b : List ℕ). put b 24 8 reader.generation) three
+    let two = c.put-2.ensures ∙ ap (λ (b : List ℕ). put b 8 8 reader.last) c.put.ensures in
+    let three = c.put-3.ensures ∙ ap (λ (b : List ℕ). put b 16 8 reader.handed) two in
+    c.put-4.ensures ∙ ap (λ (b : List ℕ). put b 24 8 reader.generation) three

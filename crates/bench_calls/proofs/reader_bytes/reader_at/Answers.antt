@@ -7,4 +7,4 @@ use Rattle.bench_calls.proofs.reader_bytes.reader_at.Goals as goal
 pub returns : goal.returns
 unfolding reader_of
 returns c = c.reader_with.ensures
-    ∙ (λ i. reader_with (c.get64.ensures i) (c.get64-2.ensures i) (c.get64-3.ensures i) (c.get64-4.ensures i))
+    ∙ (λ i. reader_with (c.get.ensures i) (c.get-2.ensures i) (c.get-3.ensures i) (c.get-4.ensures i))

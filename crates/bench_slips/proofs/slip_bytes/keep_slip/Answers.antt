@@ -9,6 +9,6 @@ use Rattle.bench_slips.proofs.slip_bytes.keep_slip.Goals as goal
 pub returns : goal.returns
 unfolding put_all
 returns c = let slip = c.args.slip in
-    let two = c.put64-2.ensures ∙ ap (λ (b : List ℕ). put b 8 8 slip.size) c.put64.ensures in
-    let three = c.put64-3.ensures ∙ ap (λ (b : List ℕ). put b 16 8 slip.sequence) two in
-    c.put64-4.ensures ∙ ap (λ (b : List ℕ). put b 24 8 slip.tail_seen) three
+    let two = c.put-2.ensures ∙ ap (λ (b : List ℕ). put b 8 8 slip.size) c.put.ensures in
+    let three = c.put-3.ensures ∙ ap (λ (b : List ℕ). put b 16 8 slip.sequence) two in
+    c.put-4.ensures ∙ ap (λ (b : List ℕ). put b 24 8 slip.tail_seen) three

@@ -1,25 +1,20 @@
-use Prim.Native.Nat.{◌-◌}
-use mathlib.Core.Path.{◌≡◌, sym, ◌∙◌}
-use native.Mathlib.Omega.{arith}
-use lib.ListN.{length}
-use Rattle.script.proofs.Fields.{field_last, field_turn, field_missing}
+-- The parts of a split are the fields (`part_field`), and `nth` gives the one that is asked for.
+use mathlib.Core.Path.{refl, ap, ◌∙◌}
+use mathlib.Core.List.{List, []}
+use Prim.Native.Nat.{ℕ}
+use lib.Dec.{eqb}
+use Rattle.std.specs.Prelude.{Option, unwrap_or}
+use Rattle.std.proofs.Common.{rules, tests, Bor}
+use Rattle.std.proofs.lemmas.Iterator.Consumers.{nth_from_yields_List}
+use Rattle.std.proofs.lemmas.Iterator.Splits.{YieldsList-from_slice_split}
+use Rattle.script.proofs.Fields.{part_field, found_part}
 use Rattle.script.proofs.field.field.Goals as goal
 
-pub returns-then-end-line : goal.returns-then-end-line
-returns-then-end-line c = let line = c.args.line.now in
-    let end = c.seek-end.result in
-    let none : end - end ≡ 0 = omega arith in
-    let missing = field_missing line c.loop-left.at end c.seek-end.ensures.place c.loop-left.left (omega arith) c.if-end-line.true in
-    rw none (sym missing ∙ c.loop-left.invariant.1)
-
-pub loop-left-preserved : goal.loop-left-preserved
-loop-left-preserved c = let line = c.args.line.now in
-    let end = c.seek-end.result in
-    let more : end ≡ length line → ⊥ = c.if-end-line.false in
-    let passed = field_turn line c.loop-left.at end c.seek-end.ensures.place c.loop-left.left (omega arith) in
-    (omega (arith, more), sym passed ∙ c.loop-left.invariant.1)
-
 pub returns : goal.returns
-returns c = let line = c.args.line.now in
-    let none : c.loop-left.left ≡ 0 = omega arith in
-    field_last line c.loop-left.at c.seek-end-2.result c.seek-end-2.ensures.place ∙ rw none at c.loop-left.invariant.1
+returns c =
+    let found = nth_from_yields_List c.nth.result c.nth.new.self c.args.k c.nth.ensures.ran
+    (YieldsList-from_slice_split _ (λ byte. eqb byte 32) c.args.line.now c.split.ensures.rest c.split.ensures.done c.split.ensures.closure (λ x b q h. search (rules, tests))) in
+    ap (λ (b : Bor (List ℕ)). b.now) c.unwrap_or.ensures
+    ∙ found_part c.nth.result _ refl
+    ∙ ap (λ (o : Option (List ℕ)). unwrap_or o []) found
+    ∙ part_field c.args.k c.args.line.now

@@ -1,6 +1,6 @@
 -- Pair by pair: what was stored and what the pairs left spell is the whole (`unhex_turn`, `put_rest`).
 -- Both digits of a pair are digits (`pair_digits`), so its byte fits.
-use Prim.Native.Nat.{◌-◌, ◌*◌, ◌≤◌}
+use Prim.Native.Nat.{◌*◌}
 use mathlib.Core.Path.{◌≡◌}
 use mathlib.Core.Bool.{true}
 use lib.ListN.{drop}
@@ -9,7 +9,7 @@ use Rattle.text.proofs.Remaining.{Left}
 use Rattle.script.proofs.hex.put_pairs.Given as goal
 
 abbrev pub invariant-loop-i : goal.invariant-loop-i
-invariant-loop-i l = (l.i ≤ l.pairs) × (all_hex (drop (2 * l.i) l.field) ≡ true) × Left l.initial.out 0 (unhex l.field) l.out l.i (unhex (drop (2 * l.i) l.field))
-
-abbrev pub decreases-loop-i : goal.decreases-loop-i
-decreases-loop-i l = l.pairs - l.i
+invariant-loop-i l = record {
+  digits : all_hex (drop (2 * l.i) l.field) ≡ true;
+  left : Left l.initial.out 0 (unhex l.field) l.out l.i (unhex (drop (2 * l.i) l.field));
+}

@@ -1,20 +1,7 @@
 use native.Mathlib.Omega.{arith}
 use Rattle.text.proofs.Quotient.{decimal_small, decimal_more}
-use Rattle.text.proofs.Numerals.{decimal_length_more, decimal_some}
 use Rattle.text.proofs.Writing.{put_one, put_then}
 use Rattle.text.proofs.decimal.+put_number.Goals as goal
-
-pub bounds-out-at : goal.bounds-out-at
-bounds-out-at t c = omega (arith, decimal_some c.args.n)
-
-pub put_number-last-requires : goal.put_number-last-requires
-put_number-last-requires t c = omega (arith, decimal_length_more c.args.n (omega arith))
-
-pub bounds-out-last : goal.bounds-out-last
-bounds-out-last t c = omega (arith, decimal_length_more c.args.n (omega arith))
-
-pub overflow_add-result-else-n-lt10 : goal.overflow_add-result-else-n-lt10
-overflow_add-result-else-n-lt10 t c = omega (arith, decimal_length_more c.args.n (omega arith))
 
 pub returns-then-n-lt10 : goal.returns-then-n-lt10
 returns-then-n-lt10 t c = rw (decimal_small c.args.n (omega arith)) (put_one _ _ _)

@@ -1,7 +1,0 @@
--- Two halves put one behind the other are the whole number put (`put_split`).
-use Rattle.word_rules.proofs.Writing.{put_split}
-use Rattle.word.proofs.number.put64.Goals as goal
-
-pub returns : goal.returns
-returns c = let a = c.args in
-    cc (put_split a.bytes.now a.at 4 4 a.value)

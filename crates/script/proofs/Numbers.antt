@@ -3,13 +3,14 @@ use Prim.Native.Nat.{ℕ, suc, ◌+◌, ◌-◌, ◌*◌, ◌≤◌, ◌<◌}
 use mathlib.Core.Path.{◌≡◌, refl, ap, ◌∙◌}
 use mathlib.Core.Bool.{true, false}
 use mathlib.Core.List.{List, [], ◌∷◌}
+use native.Mathlib.Numerals.{add-one}
 use native.Mathlib.Omega.{arith}
 use borrow.Author.Tests.{lt-ltb, le-ltb}
 use lib.Dec.{eqb}
-use lib.ListN.{length, drop, get_or}
+use lib.ListN.{length, drop, get_or, drop_of_length-le}
 use lib.Seq.{drop-cons}
 use Rattle.std.specs.Prelude.{Option, Some, None}
-use Rattle.script.specs.Number.{digit_on, read_from, leading_zero, read_number}
+use Rattle.script.specs.Number.{digit_on, read_from, leading_zero, read_number, within_most}
 
 -- ---- one digit more
 
@@ -40,8 +41,14 @@ module _ (field : List ℕ) (n i : ℕ) where
   read_next : (p : Option ℕ) → i < length field → digit_on n (get_or field i 0) ≡ p → read_from (Some n) (drop i field) ≡ read_from p (drop (suc i) field)
   read_next p h e = ap (λ (l : List ℕ). read_from (Some n) l) (drop-cons field i 0 h) ∙ ap (λ (x : Option ℕ). read_from x (drop (suc i) field)) e
 
+  pub read_turn : (m : ℕ) → i < length field → digit_on n (get_or field i 0) ≡ Some m → read_from (Some n) (drop i field) ≡ read_from (Some m) (drop (i + 1) field)
+  read_turn m h e = rw add-one (read_next (Some m) h e)
+
   pub read_bad : i < length field → digit_on n (get_or field i 0) ≡ None → read_from (Some n) (drop i field) ≡ None
   read_bad h e = read_next None h e ∙ stays_none (drop (suc i) field)
+
+  pub read_end : length field ≤ i → read_from (Some n) (drop i field) ≡ Some n
+  read_end h = rw (drop_of_length-le field h) refl
 
 -- ---- the whole field
 
@@ -67,3 +74,18 @@ zero_short field h = rw (lt-ltb (length field) 2 h) refl
 pub zero_first : (field : List ℕ) → 2 ≤ length field → leading_zero field ≡ eqb (get_or field 0 0) 48
 unfolding leading_zero
 zero_first field h = rw (le-ltb (length field) 2 h) refl
+
+-- ---- a bound
+
+module _ (most : ℕ) where
+  pub within_bad : within_most most None ≡ None
+  unfolding within_most
+  within_bad = refl
+
+  pub within_above : (n : ℕ) → most < n → within_most most (Some n) ≡ None
+  unfolding within_most
+  within_above n h = rw (lt-ltb most n h) refl
+
+  pub within_is : (n : ℕ) → n ≤ most → within_most most (Some n) ≡ Some n
+  unfolding within_most
+  within_is n h = rw (le-ltb most n h) refl

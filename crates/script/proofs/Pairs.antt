@@ -3,17 +3,30 @@ use Prim.Native.Nat.{ℕ, suc, ◌+◌, ◌*◌, ◌/◌, ◌%◌, ◌≤◌, �
 use mathlib.Core.Path.{◌≡◌, refl, ap, ◌∙◌}
 use mathlib.Core.Bool.{Bool, true, false, cond}
 use mathlib.Core.List.{List, [], ◌∷◌, ◌++◌}
+use native.Mathlib.Numerals.{add-one}
 use native.Mathlib.Omega.{arith}
-use borrow.Author.Tests.{le-ltb, ne_eqb, eqb-false, ltb-false}
+use borrow.Author.Tests.{lt-ltb, le-ltb, eq-eqb, ne_eqb, eqb-false, ltb-false}
 use Rattle.std.specs.Prelude.{Some, None, is_some, ◌&&◌}
 use lib.Dec.{ltb, eqb}
 use lib.ListN.{length, drop, get_or, drop_of_length-le}
 use lib.Seq.{drop-cons}
-use Rattle.script.specs.Hex.{value_of, digit, all_hex, is_dash, spells, unhex, hex_count, hex_bytes, hex_text, hex_field}
+use Rattle.script.specs.Hex.{value_of, digit, all_hex, is_dash, spells, unhex, hex_count, hex_bytes, hex_digit, hex_text, hex_field}
 
 -- ---- whether a field spells bytes
 
 module _ (room : ℕ) (field : List ℕ) where
+  pub spells_none : length field ≡ 0 → spells room field ≡ false
+  unfolding spells
+  spells_none e = rw (eq-eqb (length field) 0 e) refl
+
+  pub spells_odd : (length field ≡ 0 → ⊥) → length field % 2 ≡ 1 → spells room field ≡ false
+  unfolding spells
+  spells_odd ne e = rw (ne_eqb (length field) 0 ne, eq-eqb (length field % 2) 1 e) refl
+
+  pub spells_long : (length field ≡ 0 → ⊥) → (length field % 2 ≡ 1 → ⊥) → room < length field / 2 → spells room field ≡ false
+  unfolding spells
+  spells_long ne even h = rw (ne_eqb (length field) 0 ne, ne_eqb (length field % 2) 1 even, lt-ltb room (length field / 2) h) refl
+
   pub spells_digits : (length field ≡ 0 → ⊥) → (length field % 2 ≡ 1 → ⊥) → length field / 2 ≤ room → spells room field ≡ all_hex field
   unfolding spells
   spells_digits ne even h = rw (ne_eqb (length field) 0 ne, ne_eqb (length field % 2) 1 even, le-ltb room (length field / 2) h) refl
@@ -58,6 +71,10 @@ module _ (room : ℕ) (field : List ℕ) where
   pub bytes_dash : is_dash field ≡ true → hex_bytes room field ≡ []
   unfolding hex_bytes
   bytes_dash e = rw e refl
+
+  pub bytes_bad : is_dash field ≡ false → spells room field ≡ false → hex_bytes room field ≡ []
+  unfolding hex_bytes
+  bytes_bad e f = rw (e, f) refl
 
   pub bytes_spelt : is_dash field ≡ false → spells room field ≡ true → hex_bytes room field ≡ unhex field
   unfolding hex_bytes
@@ -115,6 +132,26 @@ module _ (field : List ℕ) (i : ℕ) where
 -- the value that was found of a digit
 pub digit_is : (byte value : ℕ) → value_of byte ≡ Some value → digit byte ≡ value
 digit_is byte value e = rw e refl
+
+-- ---- text of bytes, from byte i on
+
+module _ (bytes : List ℕ) (i : ℕ) where
+  pub text_turn : i < length bytes
+      → hex_text (drop i bytes) ≡ (hex_digit (get_or bytes i 0 / 16) ∷ hex_digit (get_or bytes i 0 % 16) ∷ []) ++ hex_text (drop (i + 1) bytes)
+  text_turn h = rw (add-one, drop-cons bytes i 0 h) refl
+
+  pub text_end : length bytes ≤ i → hex_text (drop i bytes) ≡ []
+  text_end h = rw (drop_of_length-le bytes h) refl
+
+pub field_none : (bytes : List ℕ) → length bytes ≡ 0 → hex_field bytes ≡ 45 ∷ []
+unfolding hex_field
+field_none [] e = refl
+field_none (x ∷ xs) e = absurd (omega arith)
+
+pub field_some : (bytes : List ℕ) → (length bytes ≡ 0 → ⊥) → hex_field bytes ≡ hex_text bytes
+unfolding hex_field
+field_some [] ne = absurd (ne refl)
+field_some (x ∷ xs) ne = refl
 
 -- ---- the room that a text takes
 

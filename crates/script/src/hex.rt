@@ -39,8 +39,8 @@ fn put_pairs(field: &[u8], out: &mut [u8])
     ensures { out.new ≡ sets out.old 0 (unhex field.now) }
 {
     for i in 0..field.len() / 2 {
-        let high = digit_value(field[2 * i]).unwrap();
-        let low = digit_value(field[2 * i + 1]).unwrap();
+        let high = digit_value(field[2 * i]).unwrap_or(0);
+        let low = digit_value(field[2 * i + 1]).unwrap_or(0);
         out[i] = high * 16 + low;
     }
 }

@@ -20,7 +20,6 @@ pub fn put_number(n: u64, out: &mut [u8], at: usize) -> usize
 }
 
 // Twenty bytes have room for every u64, so this one asks nothing of its caller.
-#[tactic(auto, using(crate::proofs::Numerals::decimal_twenty))]
 pub fn number_text(n: u64, out: &mut [u8; 20]) -> usize
     ensures front { Front out.old (decimal n) out.new result }
     ensures numeral { Numeral n (take result out.new) }

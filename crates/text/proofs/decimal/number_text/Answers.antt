@@ -4,6 +4,9 @@ use Rattle.text.proofs.Numerals.{decimal_twenty, decimal_numeral}
 use Rattle.text.proofs.Writing.{put_front}
 use Rattle.text.proofs.decimal.number_text.Goals as goal
 
+pub put_number-requires : goal.put_number-requires
+put_number-requires c = omega (arith, decimal_twenty c.args.n (omega arith))
+
 pub returns : goal.returns
 returns c = let n = c.args.n in
     let front = put_front c.put_number.ensures (omega (arith, decimal_twenty n (omega arith))) in

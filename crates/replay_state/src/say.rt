@@ -1,6 +1,6 @@
 // Answers to standard output, by bytes: an answer goes out as far as it is known, and has no `Err` to hand on.
 use crate::adler::adler32;
-use crate::room::{BUFFER_ROOM, TEXT_ROOM};
+use crate::room::{BUFFER_ROOM, text_room};
 use io::write_all;
 use reader_rules::Reader;
 use script::hex::put_hex;
@@ -9,7 +9,6 @@ use status::STDOUT_FILENO;
 use table::paper_number;
 use table_rules::Refusal;
 use text::decimal::number_text;
-use text::room::room;
 use writer_rules::Writer;
 
 pub fn words(bytes: &[u8]) {
@@ -28,7 +27,7 @@ pub fn bytes(buffer: &[u8]) {
     if buffer.len() > BUFFER_ROOM {
         return;
     }
-    let mut text = room::<TEXT_ROOM>();
+    let mut text = text_room();
     let end = put_hex(buffer, &mut text, 0);
     words(&text[0..end]);
 }

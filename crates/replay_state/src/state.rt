@@ -52,6 +52,58 @@ pub fn with<T: Copy>(items: [T; 4], i: usize, item: T) -> [T; 4]
     next
 }
 
+pub fn with_length(state: State, b: usize, length: usize) -> State
+    requires { b ≤ 3 }
+    ensures lengths { result.lengths ≡ set state.lengths b length }
+    ensures writers { result.writers ≡ state.writers }
+    ensures readers { result.readers ≡ state.readers }
+    ensures slips { result.slips ≡ state.slips }
+{
+    State {
+        lengths: with(state.lengths, b, length),
+        ..state
+    }
+}
+
+pub fn with_writer(state: State, w: usize, writer: Writer) -> State
+    requires { w ≤ 3 }
+    ensures lengths { result.lengths ≡ state.lengths }
+    ensures writers { result.writers ≡ set state.writers w writer }
+    ensures readers { result.readers ≡ state.readers }
+    ensures slips { result.slips ≡ state.slips }
+{
+    State {
+        writers: with(state.writers, w, writer),
+        ..state
+    }
+}
+
+pub fn with_reader(state: State, r: usize, reader: Reader) -> State
+    requires { r ≤ 3 }
+    ensures lengths { result.lengths ≡ state.lengths }
+    ensures writers { result.writers ≡ state.writers }
+    ensures readers { result.readers ≡ set state.readers r reader }
+    ensures slips { result.slips ≡ state.slips }
+{
+    State {
+        readers: with(state.readers, r, reader),
+        ..state
+    }
+}
+
+pub fn with_slip(state: State, s: usize, slip: Slip) -> State
+    requires { s ≤ 3 }
+    ensures lengths { result.lengths ≡ state.lengths }
+    ensures writers { result.writers ≡ state.writers }
+    ensures readers { result.readers ≡ state.readers }
+    ensures slips { result.slips ≡ set state.slips s slip }
+{
+    State {
+        slips: with(state.slips, s, slip),
+        ..state
+    }
+}
+
 // A line that is no command, or has a wrong field, changes nothing.
 pub fn unknown(state: State) -> State
     ensures { result ≡ state }

@@ -5,7 +5,7 @@ ghost use Rattle.std.specs.Prelude.{◌≡◌, ◌≤◌};
 
 use reader_rules::{Answered, Reading};
 use replay_state::say;
-use replay_state::state::{State, unknown, with};
+use replay_state::state::{State, unknown, with_reader};
 use script::field::field;
 use script::number::number_to;
 use table_rules::Refusal;
@@ -35,10 +35,7 @@ fn attachment(state: State, r: usize, attached: Answered<()>) -> State
         Err(refused) => say::refusal(refused),
     }
     say::reader(attached.reader);
-    State {
-        readers: with(state.readers, r, attached.reader),
-        ..state
-    }
+    with_reader(state, r, attached.reader)
 }
 
 pub fn attach(line: &[u8], state: State, ring: &[u8]) -> State
@@ -90,8 +87,5 @@ pub fn read(line: &[u8], state: State, ring: &[u8], out: &mut [u8]) -> State
     let answered = reader::read::read(ring, state.readers[r], &mut out[0..n]);
     reading(answered.answer, out);
     say::reader(answered.reader);
-    State {
-        readers: with(state.readers, r, answered.reader),
-        ..state
-    }
+    with_reader(state, r, answered.reader)
 }

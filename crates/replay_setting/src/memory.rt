@@ -1,13 +1,12 @@
 // The commands on the bytes of one buffer: size, put, get.
 ghost use Rattle.std.specs.Prelude.{◌≡◌, ◌≤◌};
 
-use replay_state::room::BUFFER_ROOM;
+use replay_state::room::buffer_room;
 use replay_state::say;
-use replay_state::state::{State, unknown, with};
+use replay_state::state::{State, unknown, with_length};
 use script::field::field;
 use script::hex::hex;
 use script::number::number;
-use text::room::room;
 use word::run::copy;
 
 pub fn size(line: &[u8], state: State, b: usize, buffer: &mut [u8]) -> State
@@ -23,16 +22,13 @@ pub fn size(line: &[u8], state: State, b: usize, buffer: &mut [u8]) -> State
     }
     buffer.fill(0);
     say::words(b"ok\n");
-    State {
-        lengths: with(state.lengths, b, n as usize),
-        ..state
-    }
+    with_length(state, b, n as usize)
 }
 
 pub fn put(line: &[u8], state: State, buffer: &mut [u8]) -> State
     ensures { result ≡ state }
 {
-    let mut bytes = room::<BUFFER_ROOM>();
+    let mut bytes = buffer_room();
     let (Some(at), Some(n)) = (number(field(line, 2)), hex(field(line, 3), &mut bytes)) else {
         return unknown(state);
     };

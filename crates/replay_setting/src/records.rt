@@ -4,7 +4,7 @@ ghost use Rattle.std.specs.Prelude.{◌≡◌, ◌≤◌, IfSome};
 use reader_record::reader_with;
 use reader_rules::Reader;
 use replay_state::say::words;
-use replay_state::state::{State, unknown, with};
+use replay_state::state::{State, unknown, with_reader, with_writer};
 use script::field::field;
 use script::number::{number, number_to};
 use writer::writer_with;
@@ -28,10 +28,7 @@ pub fn set_writer(line: &[u8], state: State) -> State
         return unknown(state);
     };
     words(b"ok\n");
-    State {
-        writers: with(state.writers, w, writer),
-        ..state
-    }
+    with_writer(state, w, writer)
 }
 
 fn reader_of(line: &[u8]) -> Option<(usize, Reader)>
@@ -52,8 +49,5 @@ pub fn set_reader(line: &[u8], state: State) -> State
         return unknown(state);
     };
     words(b"ok\n");
-    State {
-        readers: with(state.readers, r, reader),
-        ..state
-    }
+    with_reader(state, r, reader)
 }

@@ -6,7 +6,7 @@ ghost use Rattle.std.specs.Prelude.{◌≡◌, ◌≤◌, IfSome};
 ghost use Rattle.replay_slips.specs.Kept.{slips_after};
 
 use replay_state::say;
-use replay_state::state::{State, unknown, with};
+use replay_state::state::{State, unknown, with_reader, with_slip};
 use script::field::field;
 use script::number::{number, number_to};
 use slip_rules::{Confirming, Copying, Slip};
@@ -35,10 +35,7 @@ pub fn set_slip(line: &[u8], state: State) -> State
         return unknown(state);
     };
     say::words(b"ok\n");
-    State {
-        slips: with(state.slips, s, slip),
-        ..state
-    }
+    with_slip(state, s, slip)
 }
 
 // An event's bytes stand at the front of the output buffer.
@@ -68,10 +65,7 @@ fn noted(state: State, s: usize, answer: Result<Copying, Refusal>) -> State
     ensures slips { result.slips ≡ slips_after answer s state.slips }
 {
     match answer {
-        Ok(Copying::Event(slip)) => State {
-            slips: with(state.slips, s, slip),
-            ..state
-        },
+        Ok(Copying::Event(slip)) => with_slip(state, s, slip),
         Ok(Copying::Empty) => state,
         Ok(Copying::Moved) => state,
         Err(_) => state,
@@ -97,10 +91,7 @@ pub fn copy(line: &[u8], state: State, ring: &[u8], out: &mut [u8]) -> State
     let copied = slip::copy::copy(ring, state.readers[r], &mut out[0..n]);
     copying(copied.answer, out);
     say::reader(copied.reader);
-    let next = State {
-        readers: with(state.readers, r, copied.reader),
-        ..state
-    };
+    let next = with_reader(state, r, copied.reader);
     noted(next, s, copied.answer)
 }
 
@@ -126,8 +117,5 @@ pub fn confirm(line: &[u8], state: State, ring: &[u8]) -> State
     let confirmed = slip::confirm::confirm(ring, state.readers[r], state.slips[s]);
     confirming(confirmed.answer);
     say::reader(confirmed.reader);
-    State {
-        readers: with(state.readers, r, confirmed.reader),
-        ..state
-    }
+    with_reader(state, r, confirmed.reader)
 }

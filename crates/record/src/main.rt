@@ -2,15 +2,14 @@
 #![tactic(auto)]
 
 use program::reply::give;
-use program::room::{RECORDING_ROOM, RING_ROOM};
+use program::room::{recording_room, ring_room};
 use record_file::record_file;
 use status::STDIN_FILENO;
-use text::room::room;
 
 fn main() {
-    let mut input = room::<RING_ROOM>();
+    let mut input = ring_room();
     let n = io::read_full(STDIN_FILENO, &mut input);
-    let mut out = room::<RECORDING_ROOM>();
+    let mut out = recording_room();
     let replied = record_file(&input[..n], &mut out);
     give(replied.kind, &out[..replied.count]);
 }

@@ -8,7 +8,7 @@ ghost use Rattle.serial_rules.specs.Step.{fresh_listener as nothingHeard};
 
 use crate::tell::{fault, report};
 use reading_rules::Fault;
-use replay_state::room::BUFFER_ROOM;
+use replay_state::room::buffer_room;
 use replay_state::say;
 use replay_words::Serial;
 use script::field::field;
@@ -16,7 +16,6 @@ use script::hex::hex;
 use serial::listener::fresh;
 use serial_rules::{Listener, Report};
 use table_rules::Refusal;
-use text::room::room;
 
 pub mod tell;
 
@@ -53,7 +52,7 @@ fn answer(l: Listener, piece: &[u8]) -> Listener
 fn feed(line: &[u8], l: Listener) -> Listener
     ensures { result ≡ fed_line line.now l }
 {
-    let mut bytes = room::<BUFFER_ROOM>();
+    let mut bytes = buffer_room();
     let Some(n) = hex(field(line, 1), &mut bytes) else {
         say::words(b"unknown\n");
         return l;

@@ -4,15 +4,14 @@
 ghost use Rattle.std.specs.Prelude.{◌≡◌, ◌≤◌, IfSome};
 
 use emit_rules::{Label, Outcome};
-use replay_state::room::BUFFER_ROOM;
+use replay_state::room::buffer_room;
 use replay_state::say;
-use replay_state::state::{State, unknown, with};
+use replay_state::state::{State, unknown, with_writer};
 use script::field::field;
 use script::hex::hex;
 use script::number::{number, number_to};
 use swap_rules::SwapOutcome;
 use table_rules::Refusal;
-use text::room::room;
 
 pub fn create(line: &[u8], state: State, ring: &mut [u8]) -> State
     ensures { result ≡ state }
@@ -62,16 +61,13 @@ fn emit_payload(line: &[u8], state: State, ring: &mut [u8], payload: &[u8]) -> S
     let emitted = emit::emit(ring, state.writers[w], label, payload);
     emission(emitted.outcome);
     say::writer(emitted.writer);
-    State {
-        writers: with(state.writers, w, emitted.writer),
-        ..state
-    }
+    with_writer(state, w, emitted.writer)
 }
 
 pub fn emit(line: &[u8], state: State, ring: &mut [u8]) -> State
     ensures { (result.lengths ≡ state.lengths) × (result.readers ≡ state.readers) × (result.slips ≡ state.slips) }
 {
-    let mut payload = room::<BUFFER_ROOM>();
+    let mut payload = buffer_room();
     let Some(n) = hex(field(line, 6), &mut payload) else {
         return unknown(state);
     };
@@ -85,7 +81,7 @@ pub fn emitlen(line: &[u8], state: State, ring: &mut [u8]) -> State
     let Some(n) = number_to(field(line, 6), 40960) else {
         return unknown(state);
     };
-    let payload = room::<BUFFER_ROOM>();
+    let payload = buffer_room();
     emit_payload(line, state, ring, &payload[0..n])
 }
 
@@ -106,8 +102,5 @@ pub fn swap(line: &[u8], state: State, old: &mut [u8], new: &mut [u8]) -> State
     let swapped = swap::swap(old, new, state.writers[w]);
     exchange(swapped.outcome);
     say::writer(swapped.writer);
-    State {
-        writers: with(state.writers, w, swapped.writer),
-        ..state
-    }
+    with_writer(state, w, swapped.writer)
 }

@@ -3,17 +3,16 @@
 #![tactic(auto)]
 
 use program::reply::give;
-use program::room::{FILE_ROOM, RING_ROOM};
+use program::room::{file_room, ring_room};
 use status::STDIN_FILENO;
-use text::room::room;
 use verify_text::verify_text;
 
 const RECORDING_FILENO: i32 = 5;
 
 fn main() {
-    let mut ring = room::<RING_ROOM>();
+    let mut ring = ring_room();
     let ring_bytes = io::read_full(STDIN_FILENO, &mut ring);
-    let mut file = room::<FILE_ROOM>();
+    let mut file = file_room();
     let file_bytes = io::read_full(RECORDING_FILENO, &mut file);
     let mut out = [0u8; 64];
     let replied = verify_text(&ring[..ring_bytes], &file[..file_bytes], &mut out);

@@ -3,7 +3,7 @@ use Rattle.replay_serial.proofs.Spelt.{read, unread}
 use Rattle.replay_serial.proofs.feed.Goals as goal
 
 pub returns-in_default : goal.returns-in_default
-returns-in_default c = unread _ _ _ c.room-bytes.result c.field.ensures c.room-bytes.ensures _ c.in_default.ensures.count
+returns-in_default c = unread _ _ _ c.buffer_room-bytes.result c.field.ensures c.buffer_room-bytes.ensures _ c.in_default.ensures.count
 
 pub returns : goal.returns
-returns c = read _ _ _ c.room-bytes.result c.field.ensures c.room-bytes.ensures _ c.in-Some.ensures.count _ c.hex.ensures.bytes _ c.answer-next.ensures
+returns c = read _ _ _ c.buffer_room-bytes.result c.field.ensures c.buffer_room-bytes.ensures _ c.in-Some.ensures.count _ c.hex.ensures.bytes _ c.answer-next.ensures

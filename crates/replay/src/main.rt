@@ -2,28 +2,26 @@
 #![tactic(auto)]
 
 mod play;
+mod room;
 
-use replay_state::room::BUFFER_ROOM;
+use replay_state::room::buffer_room;
 use replay_state::say::words;
+use room::{SCRIPT_ROOM, script_room};
 use status::{Ended, STATUS_FILENO, STDIN_FILENO, digit};
-use text::room::room;
-
-// One byte more than a script may have.
-const SCRIPT_ROOM: usize = 1048577;
 
 fn main() {
-    let mut script = room::<SCRIPT_ROOM>();
+    let mut script = script_room();
     let n = io::read_full(STDIN_FILENO, &mut script);
     if n == SCRIPT_ROOM {
         words(b"too long\n");
         io::write_all(STATUS_FILENO, &digit(Ended::Other));
         return;
     }
-    let mut first = room::<BUFFER_ROOM>();
-    let mut second = room::<BUFFER_ROOM>();
-    let mut third = room::<BUFFER_ROOM>();
-    let mut fourth = room::<BUFFER_ROOM>();
-    let mut out = room::<BUFFER_ROOM>();
+    let mut first = buffer_room();
+    let mut second = buffer_room();
+    let mut third = buffer_room();
+    let mut fourth = buffer_room();
+    let mut out = buffer_room();
     play::play(
         &script[..n],
         &mut first,

@@ -1,0 +1,6 @@
+-- By the length that `room` states: from a wrong number the search alone comes to no verdict.
+use native.Mathlib.Omega.{arith}
+use Rattle.program.proofs.room.recording_room.Goals as goal
+
+pub returns : goal.returns
+returns c = omega (arith, c.room.ensures)
